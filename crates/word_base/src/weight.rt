@@ -1,0 +1,98 @@
+ghost use Rattle.std.specs.Prelude.{◌≡◌, ◌↔◌, pos, ◌+ℤ◌, ◌-ℤ◌, ◌*ℤ◌, neg_ℤ, IsSome, IfSome, IsErr, MatchOption};
+ghost use Rattle.std.specs.Result.{OkIff};
+ghost use Rattle.word_base.specs.Range.{InRange};
+
+use std::fmt;
+use std::marker::Model;
+
+/// A number of a diagram: from `-(2^127-1)` to `2^127-1`, so that each one has a negative.
+#[derive(Clone, Copy, Debug, PartialEq, Eq)]
+pub struct Weight {
+    value: i128,
+}
+
+impl Model for Weight {
+    ghost use Rattle.std.specs.Prelude.{ℤ};
+    ghost use Rattle.word_base.specs.Range.{InRange};
+
+    ghost Value = { ℤ };
+
+    ghost view = { λ w. w.value };
+
+    ghost invariant = { λ w. InRange w.value };
+
+    ghost inverse = { λ z. record { value = z } };
+}
+
+/// A result is no `Weight`: its magnitude is `2^127` or more.
+#[derive(Clone, Copy, Debug, PartialEq, Eq)]
+pub struct Overflow;
+
+impl fmt::Display for Overflow {
+    fn fmt<W: fmt::Write>(&self, f: &mut fmt::Formatter<W>) -> fmt::Result {
+        write!(f, "the result needs more than 127 bits")
+    }
+}
+
+impl std::error::Error for Overflow {}
+
+impl Weight {
+    pub const ZERO: Weight = Weight { value: 0 };
+
+    pub const ONE: Weight = Weight { value: 1 };
+    /// `2^127-1`, the greatest weight; the least is its negative.
+    pub const MAX: Weight = Weight { value: i128::MAX };
+
+    /// The number as a weight: `None` for `-2^127` alone.
+    pub fn new(value: i128) -> Option<Weight>
+        ensures valid { IsSome result ↔ InRange value }
+        ensures value { IfSome result (λ w. w ≡ value) }
+    {
+        if value == i128::MIN {
+            None
+        } else {
+            Some(Weight { value })
+        }
+    }
+
+    pub fn get(self) -> i128
+        ensures value { result ≡ self }
+        ensures in_range { InRange result }
+    {
+        self.value
+    }
+
+    pub fn add(self, other: Weight) -> Result<Weight, Overflow>
+        ensures { OkIff result (InRange (self +ℤ other)) (self +ℤ other) }
+    {
+        checked(self.value.checked_add(other.value))
+    }
+
+    pub fn sub(self, other: Weight) -> Result<Weight, Overflow>
+        ensures { OkIff result (InRange (self -ℤ other)) (self -ℤ other) }
+    {
+        checked(self.value.checked_sub(other.value))
+    }
+
+    pub fn mul(self, other: Weight) -> Result<Weight, Overflow>
+        ensures { OkIff result (InRange (self *ℤ other)) (self *ℤ other) }
+    {
+        checked(self.value.checked_mul(other.value))
+    }
+
+    pub fn neg(self) -> Weight
+        ensures { result ≡ neg_ℤ self }
+    {
+        Weight { value: -self.value }
+    }
+}
+
+/// An exact result as a weight: `None` where it has more than 128 bits.
+fn checked(exact: Option<i128>) -> Result<Weight, Overflow>
+    ensures { MatchOption exact (IsErr result) (λ z. OkIff result (InRange z) z) }
+{
+    match exact {
+        Some(value) => Weight::new(value).ok_or(Overflow),
+        None => Err(Overflow),
+    }
+}
