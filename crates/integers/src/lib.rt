@@ -1,0 +1,2 @@
+//! Algebra over the integers: divisors.
+#![tactic(auto)]

@@ -1,0 +1,186 @@
+-- The laws of every kind, from the few facts that a kind proves of its own joining rule.
+use Rattle.std.proofs.Common.{◌≡◌, refl, sym, ◌∙◌, ap, subst, ℕ, zero, suc, ◌+◌, ◌<◌, ℤ, pos, List, [], ◌∷◌, Bool, true, false, ◌&&◌, length, arith}
+use Rattle.std.specs.Prelude.{◌==◌, if◌then◌else◌, ◌↔◌}
+use Rattle.std.proofs.lemmas.Bool.{eq-eqb}
+use Rattle.word_base.specs.Kind.{is_allowed}
+use Rattle.word_base.specs.declared.decomp.Decomp.{Decomp}
+use Rattle.word_base.specs.declared.decomp.Decomp.TheVariants.{S, P, N}
+use Rattle.word_base.specs.declared.kind_name.KindName.{KindName}
+use Rattle.word_base.specs.declared.kind_name.KindName.TheVariants.{Evbdd, StarBmd, Hdd, KStarBmd}
+use Rattle.tables.specs.Table.{Table, entry, halves, IsOver, part0, part1, merged, constant_table}
+use Rattle.tables.specs.Tree.{Weights, Shape, leaf, node, Tree, constant, skips, node_join, tjoin}
+use Rattle.tables.specs.Parts.{low_of, high_of, low_part, high_part, high_below}
+use Rattle.tables.specs.Meaning.{table}
+use Rattle.tables.specs.Canonical.{canonical, IsCanonical}
+use Rattle.tables.specs.Laws.{are_allowed, ConstantsStand, ConstantsDiffer, LeavesAreConstants, AreJoinable, JoinHasParts, PartsUndoJoin, IsSkip, JoinsSkip, HasCanonicalParts, PartsAreCanonical, JoinOfParts, CanonicalTreesAgree, JoinsAreCanonical, CanonicalStands}
+use Rattle.tables.proofs.TableLaws.{minus-self, part0-merged, part1-merged, IsOver-part0, IsOver-part1, same_parts}
+use Rattle.tables.proofs.TreeLaws.{and_right, chosen, is_at, is_at-node_join, above_levels, IsOver-table, table-above}
+
+-- What a kind proves of its own joining rule
+pub record HasRule (k : KindName) : Type 0 where
+  pub constants_stand : ConstantsStand k
+  pub leaves : (ds : List Decomp) (l : ℕ) (t : Tree) → IsCanonical k ds l t → t.shape ≡ leaf → (c : ℤ) × (t ≡ constant k c)
+  pub skip_tells : (d : Decomp) (ds : List Decomp) (l : ℕ) (low high : Tree) → AreJoinable k d ds l low high → skips k d low high ≡ true → IsSkip k d low high
+  pub skip_told : (d : Decomp) (ds : List Decomp) (l : ℕ) (low high : Tree) → AreJoinable k d ds l low high → IsSkip k d low high → skips k d low high ≡ true
+  pub node_table : (d : Decomp) (ds : List Decomp) (l : ℕ) (low high : Tree) → AreJoinable k d ds l low high → skips k d low high ≡ false →
+    table k (d ∷ ds) l (node_join k d l low high) ≡ merged d (table k ds (l + 1) low) (table k ds (l + 1) high)
+  pub node_parts : (d : Decomp) (ds : List Decomp) (l : ℕ) (low high : Tree) → AreJoinable k d ds l low high → skips k d low high ≡ false →
+    (low_part k l (node_join k d l low high) ≡ low) × (high_part k d l (node_join k d l low high) ≡ high)
+
+-- ---- edges that have no node at the level
+low_of-above : (k : KindName) (l : ℕ) (w : Weights) (s : Shape) → is_at l s ≡ false → low_of k l w s ≡ record { root = w; shape = s }
+low_of-above k l w leaf h = refl
+low_of-above k l w (node n a s b r) h = rw h
+
+high_of-above : (k : KindName) (d : Decomp) (l : ℕ) (w : Weights) (s : Shape) → is_at l s ≡ false → high_of k d l w s ≡ high_below k d (record { root = w; shape = s })
+high_of-above k d l w leaf h = refl
+high_of-above k d l w (node n a s b r) h = rw h
+
+low_part-above : (k : KindName) (l : ℕ) (t : Tree) → is_at l t.shape ≡ false → low_part k l t ≡ t
+low_part-above k l t h = low_of-above k l t.root t.shape h
+
+high_part-above : (k : KindName) (d : Decomp) (l : ℕ) (t : Tree) → is_at l t.shape ≡ false → high_part k d l t ≡ high_below k d t
+high_part-above k d l t h = high_of-above k d l t.root t.shape h
+
+part0-twice : (d : Decomp) (t : Table) → part0 d (halves t t) ≡ t
+part0-twice S t = refl
+part0-twice P t = refl
+part0-twice N t = refl
+
+canonical-over : (k : KindName) (d : Decomp) (ds : List Decomp) (l n : ℕ) (t : Table) → IsOver (suc n) t →
+    canonical k (d ∷ ds) l t ≡ tjoin k d l (canonical k ds (l + 1) (part0 d t)) (canonical k ds (l + 1) (part1 d t))
+canonical-over k d ds l n (entry x) o = absurd o
+canonical-over k d ds l n (halves lo hi) o = refl
+
+constant-leaf : (k : KindName) (c : ℤ) → (constant k c).shape ≡ leaf
+constant-leaf Evbdd c = refl
+constant-leaf StarBmd c = refl
+constant-leaf Hdd c = refl
+constant-leaf KStarBmd c = refl
+
+module _ (k : KindName) (rule : HasRule k) where
+  -- ---- constants
+  pub leaves_are_constants : LeavesAreConstants k
+  leaves_are_constants ds l t c = (rule.leaves ds l t c, λ e. ap (λ (u : Tree). u.shape) e.1 ∙ constant-leaf k e.0)
+
+  -- ---- joins
+  part1-twice : (d : Decomp) (ds : List Decomp) (l : ℕ) (low high : Tree) → IsSkip k d low high →
+      part1 d (halves (table k ds (l + 1) low) (table k ds (l + 1) low)) ≡ table k ds (l + 1) high
+  part1-twice S ds l low high e = ap (table k ds (l + 1)) e
+  part1-twice P ds l low high e =
+      minus-self (length ds) (table k ds (l + 1) low) (IsOver-table k ds (l + 1) low)
+      ∙ sym (ap (table k ds (l + 1)) e ∙ rule.constants_stand ds (l + 1) (pos 0))
+  part1-twice N ds l low high e =
+      minus-self (length ds) (table k ds (l + 1) low) (IsOver-table k ds (l + 1) low)
+      ∙ sym (ap (table k ds (l + 1)) e ∙ rule.constants_stand ds (l + 1) (pos 0))
+
+  low_is_below : (d : Decomp) (ds : List Decomp) (l : ℕ) (low high : Tree) → AreJoinable k d ds l low high → is_at l low.shape ≡ false
+  low_is_below d ds l low high j = above_levels k ds l (l + 1) low j.low_canonical (omega arith)
+
+  pub join_has_parts : JoinHasParts k
+  join_has_parts d ds l low high j =
+      let HasThem : Tree → Type 0 = λ t. (part0 d (table k (d ∷ ds) l t) ≡ table k ds (l + 1) low) × (part1 d (table k (d ∷ ds) l t) ≡ table k ds (l + 1) high) in
+      let above : table k (d ∷ ds) l low ≡ halves (table k ds (l + 1) low) (table k ds (l + 1) low) =
+              table-above k d ds l low (low_is_below d ds l low high j) in
+      chosen HasThem (skips k d low high) low (node_join k d l low high)
+      (λ e. (ap (part0 d) above ∙ part0-twice d (table k ds (l + 1) low),
+             ap (part1 d) above ∙ part1-twice d ds l low high (rule.skip_tells d ds l low high j e)))
+      (λ e. let merges = rule.node_table d ds l low high j e in
+            (ap (part0 d) merges ∙ part0-merged d (table k ds (l + 1) low) (table k ds (l + 1) high),
+             ap (part1 d) merges ∙ part1-merged (length ds) d (table k ds (l + 1) low) (table k ds (l + 1) high)
+              (IsOver-table k ds (l + 1) low) (IsOver-table k ds (l + 1) high)))
+
+  high_below-skip : (d : Decomp) (low high : Tree) → IsSkip k d low high → high_below k d low ≡ high
+  high_below-skip S low high e = e
+  high_below-skip P low high e = sym e
+  high_below-skip N low high e = sym e
+
+  pub parts_undo_join : PartsUndoJoin k
+  parts_undo_join d ds l low high j =
+      let Undoes : Tree → Type 0 = λ t. (low_part k l t ≡ low) × (high_part k d l t ≡ high) in
+      let above = low_is_below d ds l low high j in
+      chosen Undoes (skips k d low high) low (node_join k d l low high)
+      (λ e. (low_part-above k l low above,
+             high_part-above k d l low above ∙ high_below-skip d low high (rule.skip_tells d ds l low high j e)))
+      (rule.node_parts d ds l low high j)
+
+  -- a node of the level is no tree below it
+  no_node : (d : Decomp) (ds : List Decomp) (l : ℕ) (low high : Tree) → AreJoinable k d ds l low high → node_join k d l low high ≡ low → ⊥
+  no_node d ds l low high j e =
+      let here : is_at l (node_join k d l low high).shape ≡ true = is_at-node_join k d l l low high ∙ eq-eqb l l refl in
+      let there : is_at l (node_join k d l low high).shape ≡ false = ap (λ (t : Tree). is_at l t.shape) e ∙ low_is_below d ds l low high j in
+      cc
+
+  pub joins_skip : JoinsSkip k
+  joins_skip d ds l low high j =
+      (λ e. tells (skips k d low high) refl e, λ e. told (rule.skip_told d ds l low high j e))
+    where
+      tells : (b : Bool) → skips k d low high ≡ b → (if b then low else node_join k d l low high) ≡ low → IsSkip k d low high
+      tells true s e = rule.skip_tells d ds l low high j s
+      tells false s e = absurd (no_node d ds l low high j e)
+      told : skips k d low high ≡ true → tjoin k d l low high ≡ low
+      told s = rw s
+
+  -- ---- parts
+  pub parts_are_canonical : PartsAreCanonical k
+  parts_are_canonical d ds l t allowed c =
+      subst (HasCanonicalParts k d ds l) (sym c.4) (of_join c.0 c.1 (record { allowed = allowed; low_canonical = c.2; high_canonical = c.3 }))
+    where
+      of_join : (low high : Tree) → AreJoinable k d ds l low high → HasCanonicalParts k d ds l (tjoin k d l low high)
+      of_join low high j =
+          let undone = parts_undo_join d ds l low high j in
+          let parts = join_has_parts d ds l low high j in
+          record {
+            low_canonical = subst (IsCanonical k ds (l + 1)) (sym undone.0) j.low_canonical;
+            high_canonical = subst (IsCanonical k ds (l + 1)) (sym undone.1) j.high_canonical;
+            low_table = ap (table k ds (l + 1)) undone.0 ∙ sym parts.0;
+            high_table = ap (table k ds (l + 1)) undone.1 ∙ sym parts.1;
+          }
+
+  pub join_of_parts : JoinOfParts k
+  join_of_parts d ds l t allowed c =
+      let Joins : Tree → Type 0 = λ u. tjoin k d l (low_part k l u) (high_part k d l u) ≡ u in
+      let undone = parts_undo_join d ds l c.0 c.1 (record { allowed = allowed; low_canonical = c.2; high_canonical = c.3 }) in
+      subst Joins (sym c.4)
+      (ap (λ (u : Tree). tjoin k d l u (high_part k d l (tjoin k d l c.0 c.1))) undone.0
+       ∙ ap (λ (u : Tree). tjoin k d l c.0 u) undone.1)
+
+  -- ---- canonicity
+  pub joins_are_canonical : JoinsAreCanonical k
+  joins_are_canonical [] l t allowed c =
+      c.1 ∙ sym (ap (canonical k [] l) (ap (table k [] l) c.1 ∙ rule.constants_stand [] l c.0))
+  joins_are_canonical (d ∷ ds) l t allowed c =
+      let below = and_right (is_allowed k d) (are_allowed k ds) allowed in
+      let j : AreJoinable k d ds l c.0 c.1 = record { allowed = allowed; low_canonical = c.2; high_canonical = c.3 } in
+      let parts = join_has_parts d ds l c.0 c.1 j in
+      let joined = tjoin k d l c.0 c.1 in
+      let low : c.0 ≡ canonical k ds (l + 1) (part0 d (table k (d ∷ ds) l joined)) =
+              joins_are_canonical ds (l + 1) c.0 below c.2 ∙ sym (ap (canonical k ds (l + 1)) parts.0) in
+      let high : c.1 ≡ canonical k ds (l + 1) (part1 d (table k (d ∷ ds) l joined)) =
+              joins_are_canonical ds (l + 1) c.1 below c.3 ∙ sym (ap (canonical k ds (l + 1)) parts.1) in
+      c.4
+      ∙ ap (λ (u : Tree). tjoin k d l u c.1) low
+      ∙ ap (λ (u : Tree). tjoin k d l (canonical k ds (l + 1) (part0 d (table k (d ∷ ds) l joined))) u) high
+      ∙ sym (canonical-over k d ds l (length ds) (table k (d ∷ ds) l joined) (IsOver-table k (d ∷ ds) l joined))
+      ∙ sym (ap (λ (u : Tree). canonical k (d ∷ ds) l (table k (d ∷ ds) l u)) c.4)
+
+  pub canonical_trees_agree : CanonicalTreesAgree k
+  canonical_trees_agree ds l t u allowed c e =
+      (λ same. ap (table k ds l) same,
+       λ same. joins_are_canonical ds l t allowed c ∙ ap (canonical k ds l) same ∙ sym (joins_are_canonical ds l u allowed e))
+
+  pub canonical_stands : CanonicalStands k
+  canonical_stands [] l (entry x) allowed o = ((x, refl), rule.constants_stand [] l x)
+  canonical_stands [] l (halves lo hi) allowed o = absurd o
+  canonical_stands (d ∷ ds) l (entry x) allowed o = absurd o
+  canonical_stands (d ∷ ds) l (halves lo hi) allowed o =
+      let t = halves lo hi in
+      let below = and_right (is_allowed k d) (are_allowed k ds) allowed in
+      let low = canonical_stands ds (l + 1) (part0 d t) below (IsOver-part0 (length ds) d t o) in
+      let high = canonical_stands ds (l + 1) (part1 d t) below (IsOver-part1 (length ds) d t o) in
+      let j : AreJoinable k d ds l (canonical k ds (l + 1) (part0 d t)) (canonical k ds (l + 1) (part1 d t)) =
+              record { allowed = allowed; low_canonical = low.0; high_canonical = high.0 } in
+      let parts = join_has_parts d ds l _ _ j in
+      ((canonical k ds (l + 1) (part0 d t), canonical k ds (l + 1) (part1 d t), low.0, high.0, refl),
+       same_parts (length ds) d (table k (d ∷ ds) l (canonical k (d ∷ ds) l t)) t (IsOver-table k (d ∷ ds) l (canonical k (d ∷ ds) l t)) o
+        (parts.0 ∙ low.1) (parts.1 ∙ high.1))

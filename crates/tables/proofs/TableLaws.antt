@@ -1,0 +1,107 @@
+-- Laws of tables: sums and differences, functions of entries, and parts.
+use Rattle.std.proofs.Common.{◌≡◌, refl, sym, ◌∙◌, ap, ℕ, zero, suc, ◌+◌, ℤ, pos, ◌+ℤ◌, ◌-ℤ◌, ◌*ℤ◌, List, [], ◌∷◌, Bool, true, false, length, arith}
+use Rattle.std.proofs.lemmas.Int.{ints}
+use Rattle.word_base.specs.declared.decomp.Decomp.{Decomp}
+use Rattle.word_base.specs.declared.decomp.Decomp.TheVariants.{S, P, N}
+use Rattle.tables.specs.Table.{Table, entry, halves, IsOver, each, zip_with, plus, minus, part0, part1, merged, tabulate, constant_table}
+
+-- two equations between the halves
+pub both_halves : {a b c d : Table} → a ≡ c → b ≡ d → halves a b ≡ halves c d
+both_halves p q = cc (p, q)
+
+-- ---- functions of entries
+pub each-same : (f g : ℤ → ℤ) → ((x : ℤ) → f x ≡ g x) → (t : Table) → each f t ≡ each g t
+each-same f g h (entry x) = ap entry (h x)
+each-same f g h (halves lo hi) = both_halves (each-same f g h lo) (each-same f g h hi)
+
+pub each-identity : (f : ℤ → ℤ) → ((x : ℤ) → f x ≡ x) → (t : Table) → each f t ≡ t
+each-identity f h (entry x) = ap entry (h x)
+each-identity f h (halves lo hi) = both_halves (each-identity f h lo) (each-identity f h hi)
+
+pub each-each : (f g : ℤ → ℤ) (t : Table) → each f (each g t) ≡ each (λ x. f (g x)) t
+each-each f g (entry x) = refl
+each-each f g (halves lo hi) = both_halves (each-each f g lo) (each-each f g hi)
+
+pub IsOver-each : (n : ℕ) (f : ℤ → ℤ) (t : Table) → IsOver n t → IsOver n (each f t)
+IsOver-each zero f (entry x) o = tt
+IsOver-each zero f (halves lo hi) o = o
+IsOver-each (suc n) f (entry x) o = o
+IsOver-each (suc n) f (halves lo hi) o = (IsOver-each n f lo o.0, IsOver-each n f hi o.1)
+
+-- ---- sums and differences
+pub IsOver-zip_with : (n : ℕ) (f : ℤ → ℤ → ℤ) (t u : Table) → IsOver n t → IsOver n u → IsOver n (zip_with f t u)
+IsOver-zip_with zero f (entry x) (entry y) o p = tt
+IsOver-zip_with zero f (halves a b) u o p = absurd o
+IsOver-zip_with zero f (entry x) (halves c d) o p = absurd p
+IsOver-zip_with (suc n) f (entry x) u o p = absurd o
+IsOver-zip_with (suc n) f (halves a b) (entry y) o p = absurd p
+IsOver-zip_with (suc n) f (halves a b) (halves c d) o p =
+    (IsOver-zip_with n f a c o.0 p.0, IsOver-zip_with n f b d o.1 p.1)
+
+-- what is added is the difference
+pub minus-plus : (n : ℕ) (t u : Table) → IsOver n t → IsOver n u → minus (plus t u) t ≡ u
+minus-plus zero (entry x) (entry y) o p = ap entry (omega (arith, ints))
+minus-plus zero (halves a b) u o p = absurd o
+minus-plus zero (entry x) (halves c d) o p = absurd p
+minus-plus (suc n) (entry x) u o p = absurd o
+minus-plus (suc n) (halves a b) (entry y) o p = absurd p
+minus-plus (suc n) (halves a b) (halves c d) o p = both_halves (minus-plus n a c o.0 p.0) (minus-plus n b d o.1 p.1)
+
+pub plus-minus : (n : ℕ) (t u : Table) → IsOver n t → IsOver n u → plus t (minus u t) ≡ u
+plus-minus zero (entry x) (entry y) o p = ap entry (omega (arith, ints))
+plus-minus zero (halves a b) u o p = absurd o
+plus-minus zero (entry x) (halves c d) o p = absurd p
+plus-minus (suc n) (entry x) u o p = absurd o
+plus-minus (suc n) (halves a b) (entry y) o p = absurd p
+plus-minus (suc n) (halves a b) (halves c d) o p = both_halves (plus-minus n a c o.0 p.0) (plus-minus n b d o.1 p.1)
+
+pub minus-self : (n : ℕ) (t : Table) → IsOver n t → minus t t ≡ constant_table n (pos 0)
+minus-self zero (entry x) o = ap entry (omega (arith, ints))
+minus-self zero (halves a b) o = absurd o
+minus-self (suc n) (entry x) o = absurd o
+minus-self (suc n) (halves a b) o = both_halves (minus-self n a o.0) (minus-self n b o.1)
+
+-- ---- constants
+pub each-constant_table : (f : ℤ → ℤ) (n : ℕ) (c : ℤ) → each f (constant_table n c) ≡ constant_table n (f c)
+each-constant_table f zero c = refl
+each-constant_table f (suc n) c = both_halves (each-constant_table f n c) (each-constant_table f n c)
+
+-- ---- parts
+pub part0-merged : (d : Decomp) (p q : Table) → part0 d (merged d p q) ≡ p
+part0-merged S p q = refl
+part0-merged P p q = refl
+part0-merged N p q = refl
+
+pub part1-merged : (n : ℕ) (d : Decomp) (p q : Table) → IsOver n p → IsOver n q → part1 d (merged d p q) ≡ q
+part1-merged n S p q o r = refl
+part1-merged n P p q o r = minus-plus n p q o r
+part1-merged n N p q o r = minus-plus n p q o r
+
+pub merged-parts : (n : ℕ) (d : Decomp) (t : Table) → IsOver (suc n) t → merged d (part0 d t) (part1 d t) ≡ t
+merged-parts n d (entry x) o = absurd o
+merged-parts n S (halves lo hi) o = refl
+merged-parts n P (halves lo hi) o = both_halves refl (plus-minus n lo hi o.0 o.1)
+merged-parts n N (halves lo hi) o = both_halves (plus-minus n hi lo o.1 o.0) refl
+
+-- a table is determined by its parts
+pub same_parts : (n : ℕ) (d : Decomp) (t u : Table) → IsOver (suc n) t → IsOver (suc n) u →
+    part0 d t ≡ part0 d u → part1 d t ≡ part1 d u → t ≡ u
+same_parts n d t u o r e f =
+    sym (merged-parts n d t o) ∙ ap (λ (p : Table). merged d p (part1 d t)) e ∙ ap (λ (q : Table). merged d (part0 d u) q) f ∙ merged-parts n d u r
+
+pub IsOver-merged : (n : ℕ) (d : Decomp) (p q : Table) → IsOver n p → IsOver n q → IsOver (suc n) (merged d p q)
+IsOver-merged n S p q o r = (o, r)
+IsOver-merged n P p q o r = (o, IsOver-zip_with n (λ x y. x +ℤ y) p q o r)
+IsOver-merged n N p q o r = (IsOver-zip_with n (λ x y. x +ℤ y) p q o r, o)
+
+pub IsOver-part0 : (n : ℕ) (d : Decomp) (t : Table) → IsOver (suc n) t → IsOver n (part0 d t)
+IsOver-part0 n d (entry x) o = absurd o
+IsOver-part0 n S (halves lo hi) o = o.0
+IsOver-part0 n P (halves lo hi) o = o.0
+IsOver-part0 n N (halves lo hi) o = o.1
+
+pub IsOver-part1 : (n : ℕ) (d : Decomp) (t : Table) → IsOver (suc n) t → IsOver n (part1 d t)
+IsOver-part1 n d (entry x) o = absurd o
+IsOver-part1 n S (halves lo hi) o = o.1
+IsOver-part1 n P (halves lo hi) o = IsOver-zip_with n (λ x y. x -ℤ y) hi lo o.1 o.0
+IsOver-part1 n N (halves lo hi) o = IsOver-zip_with n (λ x y. x -ℤ y) lo hi o.0 o.1

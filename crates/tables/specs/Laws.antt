@@ -1,0 +1,95 @@
+-- The laws of a kind, on trees with unbounded weights, and that its canonical diagrams are canonical.
+use Rattle.std.specs.Prelude.{◌≡◌, ℕ, ◌+◌, ℤ, pos, List, [], ◌∷◌, Bool, true, ◌&&◌, ◌↔◌, length}
+use Rattle.word_base.specs.Kind.{is_allowed}
+use Rattle.word_base.specs.declared.decomp.Decomp.{Decomp}
+use Rattle.word_base.specs.declared.decomp.Decomp.TheVariants.{S, P, N}
+use Rattle.word_base.specs.declared.kind_name.KindName.{KindName}
+use Rattle.tables.specs.Table.{Table, IsOver, part0, part1, constant_table}
+use Rattle.tables.specs.Tree.{leaf, Tree, constant, tjoin}
+use Rattle.tables.specs.Parts.{low_part, high_part}
+use Rattle.tables.specs.Meaning.{table}
+use Rattle.tables.specs.Canonical.{canonical, IsCanonical}
+
+-- whether the kind allows each letter
+abbrev pub are_allowed : KindName → List Decomp → Bool
+are_allowed k [] = true
+are_allowed k (d ∷ ds) = is_allowed k d && are_allowed k ds
+
+-- ---- constants
+
+-- a constant's edge stands for the table whose entries are all that constant
+abbrev pub ConstantsStand : KindName → Type 0
+ConstantsStand k = (ds : List Decomp) (l : ℕ) (c : ℤ) → table k ds l (constant k c) ≡ constant_table (length ds) c
+
+-- different constants have different edges
+abbrev pub ConstantsDiffer : KindName → Type 0
+ConstantsDiffer k = (c e : ℤ) → constant k c ≡ constant k e → c ≡ e
+
+-- the edges to the leaf are the constants' edges
+abbrev pub LeavesAreConstants : KindName → Type 0
+LeavesAreConstants k = (ds : List Decomp) (l : ℕ) (t : Tree) → IsCanonical k ds l t → (t.shape ≡ leaf) ↔ ((c : ℤ) × (t ≡ constant k c))
+
+-- ---- joins
+
+-- two canonical trees below level l, to be joined there at d
+pub record AreJoinable (k : KindName) (d : Decomp) (ds : List Decomp) (l : ℕ) (low high : Tree) : Type 0 where
+  pub allowed : are_allowed k (d ∷ ds) ≡ true
+  pub low_canonical : IsCanonical k ds (l + 1) low
+  pub high_canonical : IsCanonical k ds (l + 1) high
+
+-- the join's table has the tables of the two as its parts
+abbrev pub JoinHasParts : KindName → Type 0
+JoinHasParts k = (d : Decomp) (ds : List Decomp) (l : ℕ) (low high : Tree) → AreJoinable k d ds l low high →
+    (part0 d (table k (d ∷ ds) l (tjoin k d l low high)) ≡ table k ds (l + 1) low)
+    × (part1 d (table k (d ∷ ds) l (tjoin k d l low high)) ≡ table k ds (l + 1) high)
+
+-- the parts of a join are what was joined
+abbrev pub PartsUndoJoin : KindName → Type 0
+PartsUndoJoin k = (d : Decomp) (ds : List Decomp) (l : ℕ) (low high : Tree) → AreJoinable k d ds l low high →
+    (low_part k l (tjoin k d l low high) ≡ low) × (high_part k d l (tjoin k d l low high) ≡ high)
+
+-- at Shannon two same edges, at Davio a high edge that is the constant 0
+abbrev pub IsSkip : KindName → Decomp → Tree → Tree → Type 0
+IsSkip k S low high = low ≡ high
+IsSkip k P low high = high ≡ constant k (pos 0)
+IsSkip k N low high = high ≡ constant k (pos 0)
+
+-- a join is its low edge exactly at such a pair
+abbrev pub JoinsSkip : KindName → Type 0
+JoinsSkip k = (d : Decomp) (ds : List Decomp) (l : ℕ) (low high : Tree) → AreJoinable k d ds l low high →
+    (tjoin k d l low high ≡ low) ↔ IsSkip k d low high
+
+-- ---- parts
+
+-- the parts of a canonical tree are canonical, and stand for the parts of its table
+pub record HasCanonicalParts (k : KindName) (d : Decomp) (ds : List Decomp) (l : ℕ) (t : Tree) : Type 0 where
+  pub low_canonical : IsCanonical k ds (l + 1) (low_part k l t)
+  pub high_canonical : IsCanonical k ds (l + 1) (high_part k d l t)
+  pub low_table : table k ds (l + 1) (low_part k l t) ≡ part0 d (table k (d ∷ ds) l t)
+  pub high_table : table k ds (l + 1) (high_part k d l t) ≡ part1 d (table k (d ∷ ds) l t)
+
+abbrev pub PartsAreCanonical : KindName → Type 0
+PartsAreCanonical k = (d : Decomp) (ds : List Decomp) (l : ℕ) (t : Tree) →
+    are_allowed k (d ∷ ds) ≡ true → IsCanonical k (d ∷ ds) l t → HasCanonicalParts k d ds l t
+
+-- the join of the parts of a canonical tree gives the tree back
+abbrev pub JoinOfParts : KindName → Type 0
+JoinOfParts k = (d : Decomp) (ds : List Decomp) (l : ℕ) (t : Tree) →
+    are_allowed k (d ∷ ds) ≡ true → IsCanonical k (d ∷ ds) l t → tjoin k d l (low_part k l t) (high_part k d l t) ≡ t
+
+-- ---- canonicity
+
+-- two canonical trees are equal exactly if their tables are
+abbrev pub CanonicalTreesAgree : KindName → Type 0
+CanonicalTreesAgree k = (ds : List Decomp) (l : ℕ) (t u : Tree) → are_allowed k ds ≡ true →
+    IsCanonical k ds l t → IsCanonical k ds l u → (t ≡ u) ↔ (table k ds l t ≡ table k ds l u)
+
+-- a tree that is made by joins is the canonical diagram of its table
+abbrev pub JoinsAreCanonical : KindName → Type 0
+JoinsAreCanonical k = (ds : List Decomp) (l : ℕ) (t : Tree) → are_allowed k ds ≡ true →
+    IsCanonical k ds l t → t ≡ canonical k ds l (table k ds l t)
+
+-- the canonical diagram of a table is made by joins, and stands for the table
+abbrev pub CanonicalStands : KindName → Type 0
+CanonicalStands k = (ds : List Decomp) (l : ℕ) (t : Table) → are_allowed k ds ≡ true →
+    IsOver (length ds) t → IsCanonical k ds l (canonical k ds l t) × (table k ds l (canonical k ds l t) ≡ t)
