@@ -1,25 +1,25 @@
 -- The laws of every kind, from the few facts that a kind proves of its own joining rule.
-use Rattle.std.proofs.Common.{◌≡◌, refl, sym, ◌∙◌, ap, subst, ℕ, zero, suc, ◌+◌, ◌<◌, ℤ, pos, List, [], ◌∷◌, Bool, true, false, ◌&&◌, length, arith}
+use Rattle.std.proofs.Common.{◌≡◌, refl, sym, ◌∙◌, ap, subst, ℕ, zero, suc, ◌+◌, ◌*◌, ◌<◌, ℤ, pos, negsuc, ◌*ℤ◌, List, [], ◌∷◌, Bool, true, false, ◌&&◌, length, arith}
 use Rattle.std.specs.Prelude.{◌==◌, if◌then◌else◌, ◌↔◌}
 use Rattle.std.proofs.lemmas.Bool.{eq-eqb}
+use Rattle.std.proofs.lemmas.Int.{ints}
+use Rattle.std.proofs.Math.IntN.{one, *ℤ-one}
 use Rattle.word_base.specs.Kind.{is_allowed}
 use Rattle.word_base.specs.declared.decomp.Decomp.{Decomp}
 use Rattle.word_base.specs.declared.decomp.Decomp.TheVariants.{S, P, N}
 use Rattle.word_base.specs.declared.kind_name.KindName.{KindName}
 use Rattle.word_base.specs.declared.kind_name.KindName.TheVariants.{Evbdd, StarBmd, Hdd, KStarBmd}
-use Rattle.tables.specs.Table.{Table, entry, halves, IsOver, part0, part1, merged, constant_table}
+use Rattle.tables.specs.Table.{Table, entry, halves, IsOver, each, part0, part1, merged, constant_table}
 use Rattle.tables.specs.Tree.{Weights, Shape, leaf, node, Tree, constant, skips, node_join, tjoin}
-use Rattle.tables.specs.Parts.{low_of, high_of, low_part, high_part, high_below}
-use Rattle.tables.specs.Meaning.{table}
+use Rattle.tables.specs.Parts.{low_edge, high_edge, low_of, high_of, low_part, high_part, high_below}
+use Rattle.tables.specs.Meaning.{weighed, leaf_value, shape_table, table}
 use Rattle.tables.specs.Canonical.{canonical, IsCanonical}
 use Rattle.tables.specs.Laws.{are_allowed, ConstantsStand, ConstantsDiffer, LeavesAreConstants, AreJoinable, JoinHasParts, PartsUndoJoin, IsSkip, JoinsSkip, HasCanonicalParts, PartsAreCanonical, JoinOfParts, CanonicalTreesAgree, JoinsAreCanonical, CanonicalStands}
-use Rattle.tables.proofs.TableLaws.{minus-self, part0-merged, part1-merged, IsOver-part0, IsOver-part1, same_parts}
+use Rattle.tables.proofs.TableLaws.{both_halves, each-constant_table, minus-self, part0-merged, part1-merged, IsOver-part0, IsOver-part1, same_parts}
 use Rattle.tables.proofs.TreeLaws.{and_right, chosen, is_at, is_at-node_join, above_levels, IsOver-table, table-above}
 
 -- What a kind proves of its own joining rule
 pub record HasRule (k : KindName) : Type 0 where
-  pub constants_stand : ConstantsStand k
-  pub leaves : (ds : List Decomp) (l : ℕ) (t : Tree) → IsCanonical k ds l t → t.shape ≡ leaf → (c : ℤ) × (t ≡ constant k c)
   pub skip_tells : (d : Decomp) (ds : List Decomp) (l : ℕ) (low high : Tree) → AreJoinable k d ds l low high → skips k d low high ≡ true → IsSkip k d low high
   pub skip_told : (d : Decomp) (ds : List Decomp) (l : ℕ) (low high : Tree) → AreJoinable k d ds l low high → IsSkip k d low high → skips k d low high ≡ true
   pub node_table : (d : Decomp) (ds : List Decomp) (l : ℕ) (low high : Tree) → AreJoinable k d ds l low high → skips k d low high ≡ false →
@@ -42,6 +42,13 @@ low_part-above k l t h = low_of-above k l t.root t.shape h
 high_part-above : (k : KindName) (d : Decomp) (l : ℕ) (t : Tree) → is_at l t.shape ≡ false → high_part k d l t ≡ high_below k d t
 high_part-above k d l t h = high_of-above k d l t.root t.shape h
 
+-- ---- edges to a node of the level
+pub low_part-at : (k : KindName) (l : ℕ) (w a b : Weights) (s r : Shape) → low_of k l w (node l a s b r) ≡ low_edge k w a s
+low_part-at k l w a b s r = rw (eq-eqb l l refl)
+
+pub high_part-at : (k : KindName) (d : Decomp) (l : ℕ) (w a b : Weights) (s r : Shape) → high_of k d l w (node l a s b r) ≡ high_edge k d w b r
+high_part-at k d l w a b s r = rw (eq-eqb l l refl)
+
 part0-twice : (d : Decomp) (t : Table) → part0 d (halves t t) ≡ t
 part0-twice S t = refl
 part0-twice P t = refl
@@ -58,21 +65,74 @@ constant-leaf StarBmd c = refl
 constant-leaf Hdd c = refl
 constant-leaf KStarBmd c = refl
 
-module _ (k : KindName) (rule : HasRule k) where
-  -- ---- constants
-  pub leaves_are_constants : LeavesAreConstants k
-  leaves_are_constants ds l t c = (rule.leaves ds l t c, λ e. ap (λ (u : Tree). u.shape) e.1 ∙ constant-leaf k e.0)
+times-one : (c : ℤ) → c *ℤ pos 1 ≡ c
+unfolding one
+times-one c = *ℤ-one c
 
+-- ---- constants
+leaf_weighed : (k : KindName) (c : ℤ) → weighed k (constant k c).root (leaf_value k) ≡ c
+leaf_weighed Evbdd c = omega (arith, ints)
+leaf_weighed StarBmd c = times-one c
+leaf_weighed Hdd c = omega (arith, ints)
+leaf_weighed KStarBmd c = omega (arith, ints)
+
+shape_table-leaf : (k : KindName) (ds : List Decomp) (l : ℕ) → shape_table k ds l leaf ≡ constant_table (length ds) (leaf_value k)
+shape_table-leaf k [] l = refl
+shape_table-leaf k (d ∷ ds) l = both_halves (shape_table-leaf k ds (l + 1)) (shape_table-leaf k ds (l + 1))
+
+pub constants_stand : (k : KindName) → ConstantsStand k
+constants_stand k ds l c =
+    ap (λ (s : Shape). each (weighed k (constant k c).root) (shape_table k ds l s)) (constant-leaf k c)
+    ∙ ap (each (weighed k (constant k c).root)) (shape_table-leaf k ds l)
+    ∙ each-constant_table (weighed k (constant k c).root) (length ds) (leaf_value k)
+    ∙ ap (constant_table (length ds)) (leaf_weighed k c)
+
+pub constants_differ : (k : KindName) → ConstantsDiffer k
+constants_differ Evbdd c e h = ap (λ (t : Tree). t.root.weight) h
+constants_differ StarBmd c e h = ap (λ (t : Tree). t.root.weight) h
+constants_differ Hdd c e h = ap (λ (t : Tree). t.root.weight) h
+constants_differ KStarBmd c e h = ap (λ (t : Tree). t.root.extra) h
+
+-- What the constants have, and each join that is no skip, every canonical tree has
+pub by_joins : (k : KindName) (Has : Tree → Type 0) → ((c : ℤ) → Has (constant k c)) →
+    ((d : Decomp) (ds : List Decomp) (l : ℕ) (low high : Tree) → AreJoinable k d ds l low high → Has low → Has high →
+     skips k d low high ≡ false → Has (node_join k d l low high)) →
+    (ds : List Decomp) (l : ℕ) (t : Tree) → are_allowed k ds ≡ true → IsCanonical k ds l t → Has t
+by_joins k Has at_constant at_node [] l t allowed c = subst Has (sym c.1) (at_constant c.0)
+by_joins k Has at_constant at_node (d ∷ ds) l t allowed c =
+    let below = and_right (is_allowed k d) (are_allowed k ds) allowed in
+    let j : AreJoinable k d ds l c.0 c.1 = record { allowed = allowed; low_canonical = c.2; high_canonical = c.3 } in
+    let low = by_joins k Has at_constant at_node ds (l + 1) c.0 below c.2 in
+    let high = by_joins k Has at_constant at_node ds (l + 1) c.1 below c.3 in
+    subst Has (sym c.4)
+    (chosen Has (skips k d c.0 c.1) c.0 (node_join k d l c.0 c.1) (λ e. low) (at_node d ds l c.0 c.1 j low high))
+
+-- a tree with no node is a constant
+pub leaves : (k : KindName) (ds : List Decomp) (l : ℕ) (t : Tree) → are_allowed k ds ≡ true → IsCanonical k ds l t → t.shape ≡ leaf → (c : ℤ) × (t ≡ constant k c)
+leaves k ds l t = by_joins k (λ u. u.shape ≡ leaf → (c : ℤ) × (u ≡ constant k c)) (λ c e. (c, refl)) at_node ds l t
+  where
+    at_node : (d : Decomp) (ds : List Decomp) (l : ℕ) (low high : Tree) → AreJoinable k d ds l low high →
+        (low.shape ≡ leaf → (c : ℤ) × (low ≡ constant k c)) → (high.shape ≡ leaf → (c : ℤ) × (high ≡ constant k c)) →
+        skips k d low high ≡ false → (node_join k d l low high).shape ≡ leaf → (c : ℤ) × (node_join k d l low high ≡ constant k c)
+    at_node d ds l low high j p q s e =
+        let here : is_at l (node_join k d l low high).shape ≡ true = is_at-node_join k d l l low high ∙ eq-eqb l l refl in
+        let there : is_at l (node_join k d l low high).shape ≡ false = ap (is_at l) e in
+        absurd (cc)
+
+pub leaves_are_constants : (k : KindName) → LeavesAreConstants k
+leaves_are_constants k ds l t allowed c = (leaves k ds l t allowed c, λ e. ap (λ (u : Tree). u.shape) e.1 ∙ constant-leaf k e.0)
+
+module _ (k : KindName) (rule : HasRule k) where
   -- ---- joins
   part1-twice : (d : Decomp) (ds : List Decomp) (l : ℕ) (low high : Tree) → IsSkip k d low high →
       part1 d (halves (table k ds (l + 1) low) (table k ds (l + 1) low)) ≡ table k ds (l + 1) high
   part1-twice S ds l low high e = ap (table k ds (l + 1)) e
   part1-twice P ds l low high e =
       minus-self (length ds) (table k ds (l + 1) low) (IsOver-table k ds (l + 1) low)
-      ∙ sym (ap (table k ds (l + 1)) e ∙ rule.constants_stand ds (l + 1) (pos 0))
+      ∙ sym (ap (table k ds (l + 1)) e ∙ constants_stand k ds (l + 1) (pos 0))
   part1-twice N ds l low high e =
       minus-self (length ds) (table k ds (l + 1) low) (IsOver-table k ds (l + 1) low)
-      ∙ sym (ap (table k ds (l + 1)) e ∙ rule.constants_stand ds (l + 1) (pos 0))
+      ∙ sym (ap (table k ds (l + 1)) e ∙ constants_stand k ds (l + 1) (pos 0))
 
   low_is_below : (d : Decomp) (ds : List Decomp) (l : ℕ) (low high : Tree) → AreJoinable k d ds l low high → is_at l low.shape ≡ false
   low_is_below d ds l low high j = above_levels k ds l (l + 1) low j.low_canonical (omega arith)
@@ -148,7 +208,7 @@ module _ (k : KindName) (rule : HasRule k) where
   -- ---- canonicity
   pub joins_are_canonical : JoinsAreCanonical k
   joins_are_canonical [] l t allowed c =
-      c.1 ∙ sym (ap (canonical k [] l) (ap (table k [] l) c.1 ∙ rule.constants_stand [] l c.0))
+      c.1 ∙ sym (ap (canonical k [] l) (ap (table k [] l) c.1 ∙ constants_stand k [] l c.0))
   joins_are_canonical (d ∷ ds) l t allowed c =
       let below = and_right (is_allowed k d) (are_allowed k ds) allowed in
       let j : AreJoinable k d ds l c.0 c.1 = record { allowed = allowed; low_canonical = c.2; high_canonical = c.3 } in
@@ -170,7 +230,7 @@ module _ (k : KindName) (rule : HasRule k) where
        λ same. joins_are_canonical ds l t allowed c ∙ ap (canonical k ds l) same ∙ sym (joins_are_canonical ds l u allowed e))
 
   pub canonical_stands : CanonicalStands k
-  canonical_stands [] l (entry x) allowed o = ((x, refl), rule.constants_stand [] l x)
+  canonical_stands [] l (entry x) allowed o = ((x, refl), constants_stand k [] l x)
   canonical_stands [] l (halves lo hi) allowed o = absurd o
   canonical_stands (d ∷ ds) l (entry x) allowed o = absurd o
   canonical_stands (d ∷ ds) l (halves lo hi) allowed o =

@@ -1,3 +1,5 @@
 pub mod TableLaws
 pub mod TreeLaws
 pub mod KindLaws
+pub mod Hybrid
+pub mod EdgeValued

@@ -27,7 +27,7 @@ ConstantsDiffer k = (c e : ℤ) → constant k c ≡ constant k e → c ≡ e
 
 -- the edges to the leaf are the constants' edges
 abbrev pub LeavesAreConstants : KindName → Type 0
-LeavesAreConstants k = (ds : List Decomp) (l : ℕ) (t : Tree) → IsCanonical k ds l t → (t.shape ≡ leaf) ↔ ((c : ℤ) × (t ≡ constant k c))
+LeavesAreConstants k = (ds : List Decomp) (l : ℕ) (t : Tree) → are_allowed k ds ≡ true → IsCanonical k ds l t → (t.shape ≡ leaf) ↔ ((c : ℤ) × (t ≡ constant k c))
 
 -- ---- joins
 

@@ -1,2 +1,12 @@
-//! Tables of integers and their canonical diagrams, for the four kinds of word-level decision diagram.
+//! Tables of integers over levels, and their canonical diagrams, for the four kinds of word-level decision diagram.
+//!
+//! The definitions stand in `specs/`: tables and their parts (`Table`), diagrams as trees and the joining rule
+//! (`Tree`), the parts of a tree (`Parts`), the table that a tree stands for (`Meaning`), the canonical diagram
+//! of a table and its nodes (`Canonical`), which tables are within the range of weights, and content (`Fits`).
+//! `Laws` states what makes diagrams canonical. Each law that is proved of a kind is the contract of a function
+//! here, which does nothing.
 #![tactic(auto)]
+
+mod laws;
+
+pub use laws::{evbdd_is_canonical, evbdd_laws, hdd_is_canonical, hdd_laws};
