@@ -1,12 +1,11 @@
 -- The joining rule of edge-valued binary decision diagrams.
-use Rattle.std.proofs.Common.{◌≡◌, refl, sym, ◌∙◌, ap, ℕ, ◌+◌, ℤ, pos, ◌+ℤ◌, ◌-ℤ◌, List, ◌∷◌, Bool, true, false, ◌&&◌, arith}
+use Rattle.std.proofs.Common.{◌≡◌, refl, sym, ◌∙◌, ap, ℕ, ◌+◌, ℤ, pos, ◌+ℤ◌, ◌-ℤ◌, List, ◌∷◌, true, arith}
 use Rattle.std.proofs.lemmas.Int.{ints}
 use Rattle.word_base.specs.declared.decomp.Decomp.{Decomp}
 use Rattle.word_base.specs.declared.decomp.Decomp.TheVariants.{S, P, N}
-use Rattle.word_base.specs.declared.kind_name.KindName.{KindName}
 use Rattle.word_base.specs.declared.kind_name.KindName.TheVariants.{Evbdd}
-use Rattle.tables.specs.Table.{Table, each, merged}
-use Rattle.tables.specs.Tree.{Tree, weights, tree, constant, skips, node_join}
+use Rattle.tables.specs.Table.{each, merged}
+use Rattle.tables.specs.Tree.{Tree, weights, tree, skips, node_join}
 use Rattle.tables.specs.Parts.{low_part, high_part}
 use Rattle.tables.specs.Meaning.{weighed, shape_table, table}
 use Rattle.tables.specs.Canonical.{IsCanonical}
@@ -42,10 +41,10 @@ node_table S ds l low high j =
     let highs = shape_table Evbdd ds (l + 1) high.shape in
     ap (each (weighed Evbdd root)) (shape_table-at Evbdd S ds l at_low at_high low.shape high.shape)
     ∙ both_halves
-      (each-each (weighed Evbdd root) (weighed Evbdd at_low) lows
-       ∙ each-same _ (weighed Evbdd low.root) (λ x. omega (arith, ints)) lows)
-      (each-each (weighed Evbdd root) (weighed Evbdd at_high) highs
-       ∙ each-same _ (weighed Evbdd high.root) (λ x. omega (arith, ints)) highs)
+    (each-each (weighed Evbdd root) (weighed Evbdd at_low) lows
+    ∙ each-same _ (weighed Evbdd low.root) (λ x. omega (arith, ints)) lows)
+    (each-each (weighed Evbdd root) (weighed Evbdd at_high) highs
+    ∙ each-same _ (weighed Evbdd high.root) (λ x. omega (arith, ints)) highs)
 
 with_no_extra : (t : Tree) (w : ℤ) → w ≡ t.root.weight → t.root.extra ≡ pos 0 → tree w (pos 0) t.shape ≡ t
 with_no_extra t w p q = ap (λ (x : ℤ). tree x (pos 0) t.shape) p ∙ ap (λ (y : ℤ). tree t.root.weight y t.shape) (sym q)
@@ -56,11 +55,12 @@ node_parts d ds l low high j =
     let root = weights low.root.weight (pos 0) in
     let at_low = weights (pos 0) (pos 0) in
     let at_high = weights (high.root.weight -ℤ low.root.weight) (pos 0) in
-    let below = and_right _ (are_allowed Evbdd ds) j.allowed in
-    (low_part-at Evbdd l root at_low at_high low.shape high.shape
-     ∙ with_no_extra low low.root.weight refl (no_extra ds (l + 1) low below j.low_canonical),
-     high_part-at Evbdd d l root at_low at_high low.shape high.shape
-     ∙ with_no_extra high (low.root.weight +ℤ (high.root.weight -ℤ low.root.weight)) (omega (arith, ints)) (no_extra ds (l + 1) high below j.high_canonical))
+    let below = and_right _ (are_allowed Evbdd ds) j.allowed in (
+      low_part-at Evbdd l root at_low at_high low.shape high.shape
+          ∙ with_no_extra low low.root.weight refl (no_extra ds (l + 1) low below j.low_canonical),
+      high_part-at Evbdd d l root at_low at_high low.shape high.shape
+          ∙ with_no_extra high (low.root.weight +ℤ (high.root.weight -ℤ low.root.weight)) (omega (arith, ints)) (no_extra ds (l + 1) high below j.high_canonical),
+    )
 
 pub edge_valued_rule : HasRule Evbdd
 edge_valued_rule = record {

@@ -1,15 +1,13 @@
 -- The joining rule of hybrid diagrams, at all three letters.
-use Rattle.std.proofs.Common.{◌≡◌, refl, sym, ◌∙◌, ap, ℕ, ◌+◌, ℤ, pos, ◌+ℤ◌, List, ◌∷◌, Bool, true, false, arith}
+use Rattle.std.proofs.Common.{◌≡◌, ◌∙◌, ℕ, ◌+◌, pos, List, ◌∷◌, true, arith}
 use Rattle.std.proofs.lemmas.Int.{ints}
 use Rattle.word_base.specs.declared.decomp.Decomp.{Decomp}
 use Rattle.word_base.specs.declared.decomp.Decomp.TheVariants.{S, P, N}
-use Rattle.word_base.specs.declared.kind_name.KindName.{KindName}
 use Rattle.word_base.specs.declared.kind_name.KindName.TheVariants.{Hdd}
-use Rattle.tables.specs.Table.{Table, each, merged}
+use Rattle.tables.specs.Table.{merged}
 use Rattle.tables.specs.Tree.{Tree, weights, constant, skips, node_join}
-use Rattle.tables.specs.Parts.{low_part, high_part}
-use Rattle.tables.specs.Meaning.{weighed, shape_table, table}
-use Rattle.tables.specs.Laws.{AreJoinable, IsSkip}
+use Rattle.tables.specs.Meaning.{weighed, table}
+use Rattle.tables.specs.Laws.{IsSkip}
 use Rattle.tables.proofs.TableLaws.{each-identity}
 use Rattle.tables.proofs.TreeLaws.{same-same, same-eq, shape_table-at}
 use Rattle.tables.proofs.KindLaws.{HasRule, low_part-at, high_part-at}
@@ -36,7 +34,8 @@ hybrid_rule = record {
   skip_tells = λ d ds l low high j. skip_tells d low high;
   skip_told = λ d ds l low high j. skip_told d low high;
   node_table = λ d ds l low high j s. node_table d ds l low high;
-  node_parts = λ d ds l low high j s.
-    (low_part-at Hdd l (weights (pos 0) (pos 0)) low.root high.root low.shape high.shape,
-     high_part-at Hdd d l (weights (pos 0) (pos 0)) low.root high.root low.shape high.shape);
+  node_parts = λ d ds l low high j s. (
+    low_part-at Hdd l (weights (pos 0) (pos 0)) low.root high.root low.shape high.shape,
+    high_part-at Hdd d l (weights (pos 0) (pos 0)) low.root high.root low.shape high.shape,
+  );
 }

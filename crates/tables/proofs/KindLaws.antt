@@ -1,6 +1,6 @@
 -- The laws of every kind, from the few facts that a kind proves of its own joining rule.
-use Rattle.std.proofs.Common.{◌≡◌, refl, sym, ◌∙◌, ap, subst, ℕ, zero, suc, ◌+◌, ◌*◌, ◌<◌, ℤ, pos, negsuc, ◌*ℤ◌, List, [], ◌∷◌, Bool, true, false, ◌&&◌, length, arith}
-use Rattle.std.specs.Prelude.{◌==◌, if◌then◌else◌, ◌↔◌}
+use Rattle.std.proofs.Common.{◌≡◌, refl, sym, ◌∙◌, ap, subst, ℕ, suc, ◌+◌, ℤ, pos, ◌*ℤ◌, List, [], ◌∷◌, Bool, true, false, length, arith}
+use Rattle.std.specs.Prelude.{if◌then◌else◌}
 use Rattle.std.proofs.lemmas.Bool.{eq-eqb}
 use Rattle.std.proofs.lemmas.Int.{ints}
 use Rattle.std.proofs.Math.IntN.{one, *ℤ-one}
@@ -23,9 +23,9 @@ pub record HasRule (k : KindName) : Type 0 where
   pub skip_tells : (d : Decomp) (ds : List Decomp) (l : ℕ) (low high : Tree) → AreJoinable k d ds l low high → skips k d low high ≡ true → IsSkip k d low high
   pub skip_told : (d : Decomp) (ds : List Decomp) (l : ℕ) (low high : Tree) → AreJoinable k d ds l low high → IsSkip k d low high → skips k d low high ≡ true
   pub node_table : (d : Decomp) (ds : List Decomp) (l : ℕ) (low high : Tree) → AreJoinable k d ds l low high → skips k d low high ≡ false →
-    table k (d ∷ ds) l (node_join k d l low high) ≡ merged d (table k ds (l + 1) low) (table k ds (l + 1) high)
+      table k (d ∷ ds) l (node_join k d l low high) ≡ merged d (table k ds (l + 1) low) (table k ds (l + 1) high)
   pub node_parts : (d : Decomp) (ds : List Decomp) (l : ℕ) (low high : Tree) → AreJoinable k d ds l low high → skips k d low high ≡ false →
-    (low_part k l (node_join k d l low high) ≡ low) × (high_part k d l (node_join k d l low high) ≡ high)
+      (low_part k l (node_join k d l low high) ≡ low) × (high_part k d l (node_join k d l low high) ≡ high)
 
 -- ---- edges that have no node at the level
 low_of-above : (k : KindName) (l : ℕ) (w : Weights) (s : Shape) → is_at l s ≡ false → low_of k l w s ≡ record { root = w; shape = s }
@@ -96,7 +96,7 @@ constants_differ KStarBmd c e h = ap (λ (t : Tree). t.root.extra) h
 -- What the constants have, and each join that is no skip, every canonical tree has
 pub by_joins : (k : KindName) (Has : Tree → Type 0) → ((c : ℤ) → Has (constant k c)) →
     ((d : Decomp) (ds : List Decomp) (l : ℕ) (low high : Tree) → AreJoinable k d ds l low high → Has low → Has high →
-     skips k d low high ≡ false → Has (node_join k d l low high)) →
+    skips k d low high ≡ false → Has (node_join k d l low high)) →
     (ds : List Decomp) (l : ℕ) (t : Tree) → are_allowed k ds ≡ true → IsCanonical k ds l t → Has t
 by_joins k Has at_constant at_node [] l t allowed c = subst Has (sym c.1) (at_constant c.0)
 by_joins k Has at_constant at_node (d ∷ ds) l t allowed c =
@@ -141,14 +141,17 @@ module _ (k : KindName) (rule : HasRule k) where
   join_has_parts d ds l low high j =
       let HasThem : Tree → Type 0 = λ t. (part0 d (table k (d ∷ ds) l t) ≡ table k ds (l + 1) low) × (part1 d (table k (d ∷ ds) l t) ≡ table k ds (l + 1) high) in
       let above : table k (d ∷ ds) l low ≡ halves (table k ds (l + 1) low) (table k ds (l + 1) low) =
-              table-above k d ds l low (low_is_below d ds l low high j) in
+      table-above k d ds l low (low_is_below d ds l low high j) in
       chosen HasThem (skips k d low high) low (node_join k d l low high)
-      (λ e. (ap (part0 d) above ∙ part0-twice d (table k ds (l + 1) low),
-             ap (part1 d) above ∙ part1-twice d ds l low high (rule.skip_tells d ds l low high j e)))
-      (λ e. let merges = rule.node_table d ds l low high j e in
-            (ap (part0 d) merges ∙ part0-merged d (table k ds (l + 1) low) (table k ds (l + 1) high),
-             ap (part1 d) merges ∙ part1-merged (length ds) d (table k ds (l + 1) low) (table k ds (l + 1) high)
-              (IsOver-table k ds (l + 1) low) (IsOver-table k ds (l + 1) high)))
+      (λ e. (
+        ap (part0 d) above ∙ part0-twice d (table k ds (l + 1) low),
+        ap (part1 d) above ∙ part1-twice d ds l low high (rule.skip_tells d ds l low high j e),
+      ))
+      (λ e. let merges = rule.node_table d ds l low high j e in (
+        ap (part0 d) merges ∙ part0-merged d (table k ds (l + 1) low) (table k ds (l + 1) high),
+        ap (part1 d) merges ∙ part1-merged (length ds) d (table k ds (l + 1) low) (table k ds (l + 1) high)
+            (IsOver-table k ds (l + 1) low) (IsOver-table k ds (l + 1) high),
+      ))
 
   high_below-skip : (d : Decomp) (low high : Tree) → IsSkip k d low high → high_below k d low ≡ high
   high_below-skip S low high e = e
@@ -160,8 +163,10 @@ module _ (k : KindName) (rule : HasRule k) where
       let Undoes : Tree → Type 0 = λ t. (low_part k l t ≡ low) × (high_part k d l t ≡ high) in
       let above = low_is_below d ds l low high j in
       chosen Undoes (skips k d low high) low (node_join k d l low high)
-      (λ e. (low_part-above k l low above,
-             high_part-above k d l low above ∙ high_below-skip d low high (rule.skip_tells d ds l low high j e)))
+      (λ e. (
+        low_part-above k l low above,
+        high_part-above k d l low above ∙ high_below-skip d low high (rule.skip_tells d ds l low high j e),
+      ))
       (rule.node_parts d ds l low high j)
 
   -- a node of the level is no tree below it
@@ -178,6 +183,7 @@ module _ (k : KindName) (rule : HasRule k) where
       tells : (b : Bool) → skips k d low high ≡ b → (if b then low else node_join k d l low high) ≡ low → IsSkip k d low high
       tells true s e = rule.skip_tells d ds l low high j s
       tells false s e = absurd (no_node d ds l low high j e)
+
       told : skips k d low high ≡ true → tjoin k d l low high ≡ low
       told s = rw s
 
@@ -203,7 +209,7 @@ module _ (k : KindName) (rule : HasRule k) where
       let undone = parts_undo_join d ds l c.0 c.1 (record { allowed = allowed; low_canonical = c.2; high_canonical = c.3 }) in
       subst Joins (sym c.4)
       (ap (λ (u : Tree). tjoin k d l u (high_part k d l (tjoin k d l c.0 c.1))) undone.0
-       ∙ ap (λ (u : Tree). tjoin k d l c.0 u) undone.1)
+      ∙ ap (λ (u : Tree). tjoin k d l c.0 u) undone.1)
 
   -- ---- canonicity
   pub joins_are_canonical : JoinsAreCanonical k
@@ -215,9 +221,9 @@ module _ (k : KindName) (rule : HasRule k) where
       let parts = join_has_parts d ds l c.0 c.1 j in
       let joined = tjoin k d l c.0 c.1 in
       let low : c.0 ≡ canonical k ds (l + 1) (part0 d (table k (d ∷ ds) l joined)) =
-              joins_are_canonical ds (l + 1) c.0 below c.2 ∙ sym (ap (canonical k ds (l + 1)) parts.0) in
+      joins_are_canonical ds (l + 1) c.0 below c.2 ∙ sym (ap (canonical k ds (l + 1)) parts.0) in
       let high : c.1 ≡ canonical k ds (l + 1) (part1 d (table k (d ∷ ds) l joined)) =
-              joins_are_canonical ds (l + 1) c.1 below c.3 ∙ sym (ap (canonical k ds (l + 1)) parts.1) in
+      joins_are_canonical ds (l + 1) c.1 below c.3 ∙ sym (ap (canonical k ds (l + 1)) parts.1) in
       c.4
       ∙ ap (λ (u : Tree). tjoin k d l u c.1) low
       ∙ ap (λ (u : Tree). tjoin k d l (canonical k ds (l + 1) (part0 d (table k (d ∷ ds) l joined))) u) high
@@ -225,9 +231,10 @@ module _ (k : KindName) (rule : HasRule k) where
       ∙ sym (ap (λ (u : Tree). canonical k (d ∷ ds) l (table k (d ∷ ds) l u)) c.4)
 
   pub canonical_trees_agree : CanonicalTreesAgree k
-  canonical_trees_agree ds l t u allowed c e =
-      (λ same. ap (table k ds l) same,
-       λ same. joins_are_canonical ds l t allowed c ∙ ap (canonical k ds l) same ∙ sym (joins_are_canonical ds l u allowed e))
+  canonical_trees_agree ds l t u allowed c e = (
+    λ same. ap (table k ds l) same,
+    λ same. joins_are_canonical ds l t allowed c ∙ ap (canonical k ds l) same ∙ sym (joins_are_canonical ds l u allowed e),
+  )
 
   pub canonical_stands : CanonicalStands k
   canonical_stands [] l (entry x) allowed o = ((x, refl), constants_stand k [] l x)
@@ -239,8 +246,9 @@ module _ (k : KindName) (rule : HasRule k) where
       let low = canonical_stands ds (l + 1) (part0 d t) below (IsOver-part0 (length ds) d t o) in
       let high = canonical_stands ds (l + 1) (part1 d t) below (IsOver-part1 (length ds) d t o) in
       let j : AreJoinable k d ds l (canonical k ds (l + 1) (part0 d t)) (canonical k ds (l + 1) (part1 d t)) =
-              record { allowed = allowed; low_canonical = low.0; high_canonical = high.0 } in
-      let parts = join_has_parts d ds l _ _ j in
-      ((canonical k ds (l + 1) (part0 d t), canonical k ds (l + 1) (part1 d t), low.0, high.0, refl),
-       same_parts (length ds) d (table k (d ∷ ds) l (canonical k (d ∷ ds) l t)) t (IsOver-table k (d ∷ ds) l (canonical k (d ∷ ds) l t)) o
-        (parts.0 ∙ low.1) (parts.1 ∙ high.1))
+      record { allowed = allowed; low_canonical = low.0; high_canonical = high.0 } in
+      let parts = join_has_parts d ds l _ _ j in (
+        (canonical k ds (l + 1) (part0 d t), canonical k ds (l + 1) (part1 d t), low.0, high.0, refl),
+        same_parts (length ds) d (table k (d ∷ ds) l (canonical k (d ∷ ds) l t)) t (IsOver-table k (d ∷ ds) l (canonical k (d ∷ ds) l t)) o
+            (parts.0 ∙ low.1) (parts.1 ∙ high.1),
+      )

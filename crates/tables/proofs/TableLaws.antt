@@ -1,9 +1,9 @@
 -- Laws of tables: sums and differences, functions of entries, and parts.
-use Rattle.std.proofs.Common.{◌≡◌, refl, sym, ◌∙◌, ap, ℕ, zero, suc, ◌+◌, ℤ, pos, ◌+ℤ◌, ◌-ℤ◌, ◌*ℤ◌, List, [], ◌∷◌, Bool, true, false, length, arith}
+use Rattle.std.proofs.Common.{◌≡◌, refl, sym, ◌∙◌, ap, ℕ, zero, suc, ℤ, pos, ◌+ℤ◌, ◌-ℤ◌, arith}
 use Rattle.std.proofs.lemmas.Int.{ints}
 use Rattle.word_base.specs.declared.decomp.Decomp.{Decomp}
 use Rattle.word_base.specs.declared.decomp.Decomp.TheVariants.{S, P, N}
-use Rattle.tables.specs.Table.{Table, entry, halves, IsOver, each, zip_with, plus, minus, part0, part1, merged, tabulate, constant_table}
+use Rattle.tables.specs.Table.{Table, entry, halves, IsOver, each, zip_with, plus, minus, part0, part1, merged, constant_table}
 
 -- two equations between the halves
 pub both_halves : {a b c d : Table} → a ≡ c → b ≡ d → halves a b ≡ halves c d

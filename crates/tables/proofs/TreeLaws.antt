@@ -1,18 +1,18 @@
 -- Laws of trees that hold for every kind: when two are the same, at which levels they have nodes, and the table of
 -- a tree with no node at a level.
-use Rattle.std.proofs.Common.{◌≡◌, refl, sym, ◌∙◌, ap, ℕ, zero, suc, ◌+◌, ◌<◌, ℤ, pos, List, [], ◌∷◌, Bool, true, false, cond, ◌&&◌, eqb, length, arith}
-use Rattle.std.specs.Prelude.{◌==◌, nat_eq, if◌then◌else◌}
+use Rattle.std.proofs.Common.{◌≡◌, refl, sym, ◌∙◌, ap, ℕ, suc, ◌+◌, ◌<◌, ℤ, List, [], ◌∷◌, Bool, true, false, ◌&&◌, eqb, length, arith}
+use Rattle.std.specs.Prelude.{◌==◌, if◌then◌else◌}
 use Rattle.std.specs.Ordering.{int_eq}
 use Rattle.std.proofs.lemmas.Bool.{eqb-true, eq-eqb}
 use Rattle.std.proofs.lemmas.Bool.Decides.{Decides-int_eq}
 use Rattle.word_base.specs.declared.decomp.Decomp.{Decomp}
 use Rattle.word_base.specs.declared.kind_name.KindName.{KindName}
 use Rattle.word_base.specs.declared.kind_name.KindName.TheVariants.{Evbdd, StarBmd, Hdd, KStarBmd}
-use Rattle.tables.specs.Table.{Table, entry, halves, IsOver, each, merged}
-use Rattle.tables.specs.Tree.{Weights, Shape, leaf, node, Tree, weights, tree, constant, same_weights, same_shape, same, skips, node_join, tjoin}
+use Rattle.tables.specs.Table.{Table, halves, IsOver, each, merged}
+use Rattle.tables.specs.Tree.{Weights, Shape, leaf, node, Tree, weights, constant, same_weights, same_shape, same, skips, node_join}
 use Rattle.tables.specs.Meaning.{weighed, shape_table, table}
 use Rattle.tables.specs.Canonical.{IsCanonical}
-use Rattle.tables.proofs.TableLaws.{both_halves, IsOver-each, IsOver-merged}
+use Rattle.tables.proofs.TableLaws.{IsOver-each, IsOver-merged}
 
 -- ---- tests
 pub and_left : (a b : Bool) → (a && b) ≡ true → a ≡ true
@@ -68,7 +68,7 @@ same_shape-refl leaf = refl
 same_shape-refl (node l a s b r) =
     both_true _ _ (eq-eqb l l refl)
     (both_true _ _ (same_weights-refl a)
-     (both_true _ _ (same_shape-refl s) (both_true _ _ (same_weights-refl b) (same_shape-refl r))))
+    (both_true _ _ (same_shape-refl s) (both_true _ _ (same_weights-refl b) (same_shape-refl r))))
 
 pub same-same : (t u : Tree) → same t u ≡ true → t ≡ u
 same-same t u h =
@@ -112,8 +112,8 @@ above_levels k (d ∷ ds) l m t c h =
     let deeper : l < m + 1 = omega arith in
     ap (λ (u : Tree). is_at l u.shape) c.4
     ∙ chosen IsAbove (skips k d c.0 c.1) c.0 (node_join k d m c.0 c.1)
-      (λ e. above_levels k ds l (m + 1) c.0 c.2 deeper)
-      (λ e. is_at-node_join k d m l c.0 c.1 ∙ apart l m h)
+    (λ e. above_levels k ds l (m + 1) c.0 c.2 deeper)
+    (λ e. is_at-node_join k d m l c.0 c.1 ∙ apart l m h)
 
 -- ---- tables of trees
 IsOver-if : (n : ℕ) (b : Bool) (t u : Table) → IsOver n t → IsOver n u → IsOver n (if b then t else u)
@@ -126,8 +126,8 @@ IsOver-shape_table k (d ∷ ds) l (node n a s b r) =
     let below : IsOver (length ds) (shape_table k ds (l + 1) (node n a s b r)) = IsOver-shape_table k ds (l + 1) (node n a s b r) in
     IsOver-if (suc (length ds)) (n == l) _ _
     (IsOver-merged (length ds) d _ _
-     (IsOver-each (length ds) (weighed k a) _ (IsOver-shape_table k ds (l + 1) s))
-     (IsOver-each (length ds) (weighed k b) _ (IsOver-shape_table k ds (l + 1) r)))
+    (IsOver-each (length ds) (weighed k a) _ (IsOver-shape_table k ds (l + 1) s))
+    (IsOver-each (length ds) (weighed k b) _ (IsOver-shape_table k ds (l + 1) r)))
     (below, below)
 
 pub IsOver-table : (k : KindName) (ds : List Decomp) (l : ℕ) (t : Tree) → IsOver (length ds) (table k ds l t)

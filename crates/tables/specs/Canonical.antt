@@ -1,5 +1,5 @@
 -- The canonical diagram of a table, and its nodes.
-use Rattle.std.specs.Prelude.{◌≡◌, ℕ, ◌+◌, ℤ, pos, List, [], ◌∷◌, ◌⊎◌, Bool, true, false, ◌||◌, if◌then◌else◌, length, refl}
+use Rattle.std.specs.Prelude.{◌≡◌, ℕ, ◌+◌, ℤ, pos, List, [], ◌∷◌, ◌⊎◌, Bool, false, ◌||◌, if◌then◌else◌, length}
 use Rattle.word_base.specs.declared.decomp.Decomp.{Decomp}
 use Rattle.word_base.specs.declared.kind_name.KindName.{KindName}
 use Rattle.tables.specs.Table.{Table, entry, halves, part0, part1}

@@ -1,5 +1,5 @@
 -- Which tables have a canonical diagram within the range of weights, and the content of a table.
-use Rattle.std.specs.Prelude.{◌≡◌, ℕ, ◌+◌, ℤ, pos, negsuc, ◌-ℤ◌, List, [], ◌∷◌, Bool, true, false, ◌&&◌, unsigned_abs, refl}
+use Rattle.std.specs.Prelude.{◌≡◌, ℕ, ℤ, pos, negsuc, ◌-ℤ◌, List, [], ◌∷◌, Bool, true, false, ◌&&◌, unsigned_abs, refl}
 use Rattle.integers.specs.Gcd.{gcd}
 use Rattle.word_base.specs.Range.{in_range}
 use Rattle.word_base.specs.declared.decomp.Decomp.{Decomp}

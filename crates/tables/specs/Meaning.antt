@@ -1,11 +1,11 @@
 -- The table that a tree stands for.
-use Rattle.std.specs.Prelude.{◌≡◌, ℕ, ◌+◌, ◌==◌, ℤ, pos, negsuc, ◌+ℤ◌, ◌*ℤ◌, List, [], ◌∷◌, if◌then◌else◌, refl}
+use Rattle.std.specs.Prelude.{◌≡◌, ℕ, ◌+◌, ◌==◌, ℤ, pos, ◌+ℤ◌, ◌*ℤ◌, List, [], ◌∷◌, if◌then◌else◌, refl}
 use Rattle.word_base.specs.declared.decomp.Decomp.{Decomp}
-use Rattle.word_base.specs.declared.decomp.Decomp.TheVariants.{S, P, N}
+use Rattle.word_base.specs.declared.decomp.Decomp.TheVariants.{P}
 use Rattle.word_base.specs.declared.kind_name.KindName.{KindName}
 use Rattle.word_base.specs.declared.kind_name.KindName.TheVariants.{Evbdd, StarBmd, Hdd, KStarBmd}
 use Rattle.tables.specs.Table.{Table, entry, halves, each, merged}
-use Rattle.tables.specs.Tree.{Weights, Shape, leaf, node, Tree, weights, tree, constant, tjoin}
+use Rattle.tables.specs.Tree.{Weights, Shape, leaf, node, Tree, constant, tjoin}
 
 -- The value of an edge, from its weights and the value of what it leads to. In a hybrid diagram a constant has
 -- its number as its weight, and an edge to a node has 0
@@ -43,5 +43,5 @@ product = tjoin StarBmd P 1 (constant StarBmd (pos 0))
 
 product-table : table StarBmd (P ∷ P ∷ P ∷ []) 0 product
     ≡ halves (halves (halves (entry (pos 0)) (entry (pos 0))) (halves (entry (pos 0)) (entry (pos 2))))
-      (halves (halves (entry (pos 0)) (entry (pos 0))) (halves (entry (pos 0)) (entry (pos 2))))
+    (halves (halves (entry (pos 0)) (entry (pos 0))) (halves (entry (pos 0)) (entry (pos 2))))
 product-table = refl

@@ -1,10 +1,10 @@
 -- The two parts of a tree at a level.
-use Rattle.std.specs.Prelude.{◌≡◌, ℕ, ◌==◌, ℤ, pos, negsuc, ◌+ℤ◌, ◌*ℤ◌, Bool, if◌then◌else◌, refl}
+use Rattle.std.specs.Prelude.{◌≡◌, ℕ, ◌==◌, pos, negsuc, ◌+ℤ◌, ◌*ℤ◌, if◌then◌else◌, refl}
 use Rattle.word_base.specs.declared.decomp.Decomp.{Decomp}
 use Rattle.word_base.specs.declared.decomp.Decomp.TheVariants.{S, P, N}
 use Rattle.word_base.specs.declared.kind_name.KindName.{KindName}
 use Rattle.word_base.specs.declared.kind_name.KindName.TheVariants.{Evbdd, StarBmd, Hdd, KStarBmd}
-use Rattle.tables.specs.Tree.{Weights, Shape, leaf, node, Tree, weights, tree, constant, tjoin}
+use Rattle.tables.specs.Tree.{Weights, Shape, leaf, node, Tree, tree, constant, tjoin}
 
 -- the low part of an edge to a node: from the root's weights, and the node's low edge
 abbrev pub low_edge : KindName → Weights → Weights → Shape → Tree

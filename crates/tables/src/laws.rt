@@ -11,16 +11,14 @@ pub fn hdd_laws()
     ensures joins_skip { JoinsSkip Hdd }
     ensures parts_are_canonical { PartsAreCanonical Hdd }
     ensures join_of_parts { JoinOfParts Hdd }
-{
-}
+{}
 
 /// Two canonical hybrid diagrams are equal exactly if their tables are.
 pub fn hdd_is_canonical()
     ensures trees_agree { CanonicalTreesAgree Hdd }
     ensures joins_are_canonical { JoinsAreCanonical Hdd }
     ensures canonical_stands { CanonicalStands Hdd }
-{
-}
+{}
 
 /// The laws of edge-valued binary decision diagrams (Lai and Sastry 1992).
 pub fn evbdd_laws()
@@ -32,13 +30,11 @@ pub fn evbdd_laws()
     ensures joins_skip { JoinsSkip Evbdd }
     ensures parts_are_canonical { PartsAreCanonical Evbdd }
     ensures join_of_parts { JoinOfParts Evbdd }
-{
-}
+{}
 
 /// Two canonical edge-valued diagrams are equal exactly if their tables are.
 pub fn evbdd_is_canonical()
     ensures trees_agree { CanonicalTreesAgree Evbdd }
     ensures joins_are_canonical { JoinsAreCanonical Evbdd }
     ensures canonical_stands { CanonicalStands Evbdd }
-{
-}
+{}
