@@ -1,0 +1,4 @@
+pub mod Descent
+pub mod Gates
+pub mod Polynomials
+pub mod Rounds

@@ -1,0 +1,16 @@
+//! Combinational netlists as plain data: nets, gates, and what the values of the nets are.
+//!
+//! Nets are numbered with the inputs first, in order, and then the gates, in order.
+//!
+//! - `GateWord`: the eight words of a gate;
+//! - `laws`: each function there states a law of the definitions in `specs/`, which it proves.
+//!
+//! Where to look in `specs/`: `Circuit` (the data), `Truth` and `Valuation` (the values), `Order`
+//! and `Cone` (which gates come first, and which ones some nets need), `Polynomial` (gates over ℤ).
+#![tactic(auto)]
+
+mod gate_word;
+mod laws;
+
+pub use gate_word::GateWord;
+pub use laws::{one_valuation, polynomials_are_truth};

@@ -1,0 +1,4 @@
+pub mod Formula
+pub mod Named
+pub mod Specification
+pub mod Value
