@@ -1,1 +1,2 @@
 pub mod Gcd
+pub mod Laws

@@ -1,10 +1,11 @@
 -- The gate of a net.
-use Rattle.std.specs.Prelude.{◌≡◌, ℕ, suc, ◌+◌, ◌-◌, ◌<◌, ◌≤◌, ◌⊎◌, Bool, true, false, List, [], ◌∷◌, map, length, nat_lt, if◌then◌else◌, slice_get, slice_index_or, Option, Some, None, Contains, refl}
+use Rattle.std.specs.Prelude.{◌≡◌, ℕ, ◌-◌, ◌<◌, ◌≤◌, ◌⊎◌, Bool, true, false, List, [], ◌∷◌, map, nat_lt, slice_get, Option, Some, None, Contains, refl}
 use Rattle.std.specs.Option.{option_map_or}
 use Rattle.std.proofs.Common.{sym, ◌∙◌, ap, subst, inl, inr, ⊎_elim, arith}
-use Rattle.std.proofs.lemmas.Bool.{cases_Bool, cases_lt, ltb-true, ltb-false, le-ltb, lt-ltb, cond-true, cond-false}
+use Rattle.std.proofs.lemmas.Bool.{cases_lt, le-ltb, lt-ltb, cond-true, cond-false}
 use Rattle.std.proofs.lemmas.Option.{slice_get_cases}
-use Rattle.netlist.specs.Circuit.{Circuit, Gate, IsGate, input_count, net_count, gate_of, fanin}
+use Rattle.netlist.proofs.Members.{Contains-cons, Contains-head, Contains-nil}
+use Rattle.netlist.specs.Circuit.{Circuit, Gate, IsGate, input_count, gate_of, fanin}
 
 -- past the inputs, the gates stand in their order
 pub gate_of-at : (c : Circuit) (net : ℕ) → input_count c ≤ net → gate_of c net ≡ slice_get c.gates (net - input_count c)
@@ -16,9 +17,9 @@ gate_of-input c net low = cond-true (nat_lt net (input_count c)) None (slice_get
 -- each net that is a gate's has its gate
 pub gate_from_IsGate : (c : Circuit) (net : ℕ) → IsGate c net → (gate : Gate) × (gate_of c net ≡ Some gate)
 gate_from_IsGate c net is = ⊎_elim
-  (λ found. (found.0, gate_of-at c net is.0 ∙ found.2))
-  (λ past. absurd (omega arith))
-  (slice_get_cases c.gates (net - input_count c)).1
+    (λ found. (found.0, gate_of-at c net is.0 ∙ found.2))
+    (λ past. absurd (omega arith))
+    (slice_get_cases c.gates (net - input_count c)).1
 
 -- a net with a gate comes after the inputs, and its gate stands at its place among the gates
 pub record Stands (c : Circuit) (net : ℕ) (gate : Gate) : Type 0 where
@@ -30,31 +31,37 @@ Stands-from_gate_of c net gate e = ⊎_elim (λ low. absurd (none low)) past (ca
   where
     none : net < input_count c → ⊥
     none low = let input : gate_of c net ≡ None = gate_of-input c net low in cc
+
     past : input_count c ≤ net → Stands c net gate
     past high = ⊎_elim
-      (λ found. record { is_gate = omega arith; at = sym (gate_of-at c net high) ∙ e })
-      (λ beyond. let input : gate_of c net ≡ None = gate_of-at c net high ∙ beyond.1 in absurd cc)
-      (slice_get_cases c.gates (net - input_count c)).1
+        (λ found. record { is_gate = omega arith; at = sym (gate_of-at c net high) ∙ e })
+        (λ beyond. let input : gate_of c net ≡ None = gate_of-at c net high ∙ beyond.1 in absurd cc)
+        (slice_get_cases c.gates (net - input_count c)).1
 
 pub fanin-of_gate : (c : Circuit) (net : ℕ) (gate : Gate) → gate_of c net ≡ Some gate → fanin c net ≡ gate.inputs
 fanin-of_gate c net gate e = ap (λ o. option_map_or (λ (g : Gate). g.inputs) o []) e
-
-pub Contains-cons : {X : Type 0} (y : X) (xs : List X) (x : X) → Contains xs x → Contains (y ∷ xs) x
-Contains-cons y xs x has = (suc has.0, omega arith, has.2)
 
 -- two functions give the same on a list, or differ at one of its elements
 pub same_or_differ : (f g : ℕ → Bool) (xs : List ℕ) → (map f xs ≡ map g xs) ⊎ ((x : ℕ) × Contains xs x × (f x ≡ g x → ⊥))
 same_or_differ f g [] = inl refl
 same_or_differ f g (x ∷ xs) = ⊎_elim
-  (λ here. ⊎_elim
+    (λ here. ⊎_elim
     (λ same. inl (cc))
     (λ apart. inr (apart.0, Contains-cons x xs apart.0 apart.1, apart.2))
     (same_or_differ f g xs))
-  (λ apart. inr (x, (0, omega arith, refl), apart))
-  (same_bits (f x) (g x))
+    (λ apart. inr (x, Contains-head x xs, apart))
+    (same_bits (f x) (g x))
   where
     same_bits : (a b : Bool) → (a ≡ b) ⊎ (a ≡ b → ⊥)
     same_bits false false = inl refl
     same_bits true true = inl refl
     same_bits false true = inr (λ e. cc)
     same_bits true false = inr (λ e. cc)
+
+-- a net that reads another is a gate's
+pub IsGate-from_input : (c : Circuit) (net input : ℕ) → Contains (fanin c net) input → IsGate c net
+IsGate-from_input c net input reads = go (gate_of c net) refl
+  where
+    go : (o : Option Gate) → gate_of c net ≡ o → IsGate c net
+    go None e = let none : fanin c net ≡ [] = ap (λ found. option_map_or (λ (g : Gate). g.inputs) found []) e in absurd (Contains-nil input (subst (λ xs. Contains xs input) none reads))
+    go (Some gate) e = let stands : Stands c net gate = Stands-from_gate_of c net gate e in stands.is_gate

@@ -1,15 +1,15 @@
 -- At bits, each step of a polynomial is the truth function on two bits, and so its fold that on all.
-use Rattle.std.specs.Prelude.{◌≡◌, ℕ, suc, ◌+◌, ◌<◌, ◌%◌, ◌==◌, ℤ, pos, ◌*ℤ◌, ◌-ℤ◌, Bool, true, false, not, cond, ◌&&◌, ◌||◌, List, [], ◌∷◌, map, length, fold, count_by, if◌then◌else◌, refl}
-use Rattle.std.specs.List.{list_any, list_all}
+use Rattle.std.specs.Prelude.{◌≡◌, ℕ, ◌+◌, ◌<◌, ◌%◌, ◌==◌, ℤ, Bool, true, false, not, cond, ◌&&◌, ◌||◌, List, [], ◌∷◌, map, length, fold, refl}
 use Rattle.std.proofs.Common.{sym, ◌∙◌, ap, arith}
-use Rattle.netlist.specs.Polynomial.{polynomial, folded, step, number_of, negation}
+use Rattle.netlist.specs.Polynomial.{polynomial, step, number_of, negation}
 use Rattle.netlist.specs.Truth.{truth, all_are_1, some_is_1, an_odd_number_is_1}
 use Rattle.netlist.specs.declared.gate_word.GateWord.{GateWord}
 use Rattle.netlist.specs.declared.gate_word.GateWord.TheVariants.{And, Nand, Or, Nor, Xor, Xnor, Not, Buff}
-use Rattle.std.proofs.lemmas.Grind.{common_steps}
 
 -- a fold whose step is `both` on bits
-fold_of_bits : (f : ℤ → ℤ → ℤ) (both : Bool → Bool → Bool) → ((a b : Bool) → f (number_of a) (number_of b) ≡ number_of (both a b)) → (a : Bool) (bits : List Bool) → fold f (number_of a) (map number_of bits) ≡ number_of (fold both a bits)
+fold_of_bits : (f : ℤ → ℤ → ℤ) (both : Bool → Bool → Bool) →
+    ((a b : Bool) → f (number_of a) (number_of b) ≡ number_of (both a b)) →
+    (a : Bool) (bits : List Bool) → fold f (number_of a) (map number_of bits) ≡ number_of (fold both a bits)
 fold_of_bits f both same a [] = refl
 fold_of_bits f both same a (b ∷ bits) = ap (λ x. fold f x (map number_of bits)) (same a b) ∙ fold_of_bits f both same (both a b) bits
 

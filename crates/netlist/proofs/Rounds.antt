@@ -1,12 +1,12 @@
 -- After as many rounds as there are gates the values stay, and they are the one valuation.
-use Rattle.std.specs.Prelude.{◌≡◌, ℕ, zero, suc, ◌+◌, ◌-◌, ◌<◌, ◌≤◌, ◌⊎◌, Bool, true, false, List, [], ◌∷◌, ◌++◌, map, length, replicate, slice_get, slice_index_or, Some, Contains, refl}
-use Rattle.std.proofs.Common.{sym, ◌∙◌, ap, subst, inl, inr, ⊎_elim, arith}
+use Rattle.std.specs.Prelude.{◌≡◌, ℕ, zero, suc, ◌-◌, ◌<◌, Bool, true, false, List, ◌++◌, map, length, replicate, Some, Contains, refl}
+use Rattle.std.proofs.Common.{sym, ◌∙◌, ap, subst, ⊎_elim, arith}
 use Rattle.std.proofs.lemmas.Bool.{cases_lt}
 use Rattle.std.proofs.lemmas.List.{ext_get_or, get_or_append_left, get_or-append_right, get_or-map, get_or_past, length-append, length-map, length-replicate}
 use Rattle.std.proofs.lemmas.Option.{get_or_from_slice_get}
 use Rattle.netlist.proofs.Descent.{no_descent}
 use Rattle.netlist.proofs.Gates.{gate_from_IsGate, Stands, Stands-from_gate_of, fanin-of_gate, same_or_differ}
-use Rattle.netlist.specs.Circuit.{Circuit, Gate, IsGate, input_count, net_count, gate_of, fanin}
+use Rattle.netlist.specs.Circuit.{Circuit, Gate, IsGate, input_count, net_count, gate_of}
 use Rattle.netlist.specs.Order.{IsInput, IsAccepted}
 use Rattle.netlist.specs.Valuation.{bit_of, gate_value, IsValuation, recomputed, after_rounds, valuation}
 use Rattle.netlist.specs.Truth.{truth}
@@ -25,12 +25,12 @@ starts_with c bits rest many others = record {
 -- off the gates such values agree
 agree_off_gates : (c : Circuit) (bits values others : List Bool) → Starts c bits values → Starts c bits others → (net : ℕ) → (bit_of values net ≡ bit_of others net → ⊥) → IsGate c net
 agree_off_gates c bits values others starts starts' net apart = ⊎_elim
-  (λ low. absurd (apart (starts.inputs net low ∙ sym (starts'.inputs net low))))
-  (λ high. ⊎_elim
+    (λ low. absurd (apart (starts.inputs net low ∙ sym (starts'.inputs net low))))
+    (λ high. ⊎_elim
     (λ below. (high, below))
     (λ past. absurd (apart (get_or_past values net false (omega arith) ∙ sym (get_or_past others net false (omega arith)))))
     (cases_lt net (net_count c)))
-  (cases_lt net (input_count c))
+    (cases_lt net (input_count c))
 
 same_values : (c : Circuit) (bits values others : List Bool) → Starts c bits values → Starts c bits others → ((net : ℕ) → net < net_count c → bit_of values net ≡ bit_of others net) → values ≡ others
 same_values c bits values others starts starts' each = ext_get_or false values others (starts.one_each ∙ sym starts'.one_each) (λ net low. each net (omega arith))
@@ -48,13 +48,15 @@ module _ (c : Circuit) (bits : List Bool) (many : length bits ≡ input_count c)
   -- a round gives each gate what it computes of the values before
   recomputed-at : (values : List Bool) (net : ℕ) (gate : Gate) → gate_of c net ≡ Some gate → bit_of (recomputed c bits values) net ≡ gate_value gate values
   recomputed-at values net gate e =
-    let stands : Stands c net gate = Stands-from_gate_of c net gate e in
-    get_or-append_right bits (map (λ (g : Gate). gate_value g values) c.gates) (input_count c) net false many stands.is_gate.0
+      let stands : Stands c net gate = Stands-from_gate_of c net gate e in
+      get_or-append_right bits (map (λ (g : Gate). gate_value g values) c.gates) (input_count c) net false many stands.is_gate.0
       ∙ get_or-map (λ (g : Gate). gate_value g values) c.gates (net - input_count c) gate false (omega arith)
       ∙ ap (λ g. gate_value g values) (get_or_from_slice_get c.gates (net - input_count c) gate gate stands.at)
 
   -- two runs of rounds come to the same values
-  module _ (accepted : IsAccepted c) (A B : ℕ → List Bool) (a_start : Starts c bits (A 0)) (b_start : Starts c bits (B 0)) (a_step : (n : ℕ) → A (suc n) ≡ recomputed c bits (A n)) (b_step : (n : ℕ) → B (suc n) ≡ recomputed c bits (B n)) where
+  module _ (accepted : IsAccepted c) (A B : ℕ → List Bool)
+      (a_start : Starts c bits (A 0)) (b_start : Starts c bits (B 0))
+      (a_step : (n : ℕ) → A (suc n) ≡ recomputed c bits (A n)) (b_step : (n : ℕ) → B (suc n) ≡ recomputed c bits (B n)) where
     a_starts : (n : ℕ) → Starts c bits (A n)
     a_starts zero = a_start
     a_starts (suc n) = subst (Starts c bits) (sym (a_step n)) (starts_recomputed (A n))
@@ -71,14 +73,16 @@ module _ (c : Circuit) (bits : List Bool) (many : length bits ≡ input_count c)
 
     apart_down : (n net : ℕ) → Apart (suc n) net → (input : ℕ) × IsInput c net input × Apart n input
     apart_down n net apart = ⊎_elim
-      (λ same. absurd (apart (a_at ∙ ap (truth gate.0.word) same ∙ sym b_at)))
-      (λ other. (other.0, subst (λ xs. Contains xs other.0) (sym (fanin-of_gate c net gate.0 gate.1)) other.1, other.2))
-      (same_or_differ (bit_of (A n)) (bit_of (B n)) gate.0.inputs)
+        (λ same. absurd (apart (a_at ∙ ap (truth gate.0.word) same ∙ sym b_at)))
+        (λ other. (other.0, subst (λ xs. Contains xs other.0) (sym (fanin-of_gate c net gate.0 gate.1)) other.1, other.2))
+        (same_or_differ (bit_of (A n)) (bit_of (B n)) gate.0.inputs)
       where
         gate : (gate : Gate) × (gate_of c net ≡ Some gate)
         gate = gate_from_IsGate c net (apart_gate (suc n) net apart)
+
         a_at : bit_of (A (suc n)) net ≡ gate_value gate.0 (A n)
         a_at = ap (λ values. bit_of values net) (a_step n) ∙ recomputed-at (A n) net gate.0 gate.1
+
         b_at : bit_of (B (suc n)) net ≡ gate_value gate.0 (B n)
         b_at = ap (λ values. bit_of values net) (b_step n) ∙ recomputed-at (B n) net gate.0 gate.1
 
@@ -96,6 +100,7 @@ module _ (c : Circuit) (bits : List Bool) (many : length bits ≡ input_count c)
     where
       starts : Starts c bits (valuation c bits)
       starts = subst (Starts c bits) (sym (valuation-recomputed accepted)) (starts_recomputed (valuation c bits))
+
       at_gates : (net : ℕ) (gate : Gate) → gate_of c net ≡ Some gate → bit_of (valuation c bits) net ≡ gate_value gate (valuation c bits)
       at_gates net gate e = ap (λ values. bit_of values net) (valuation-recomputed accepted) ∙ recomputed-at (valuation c bits) net gate e
 
@@ -108,9 +113,9 @@ module _ (c : Circuit) (bits : List Bool) (many : length bits ≡ input_count c)
     where
       each : (net : ℕ) → net < net_count c → bit_of values net ≡ bit_of (recomputed c bits values) net
       each net below = ⊎_elim
-        (λ low. is.inputs net low ∙ sym ((starts_recomputed values).inputs net low))
-        (λ high. let gate = gate_from_IsGate c net (high, below) in is.gates net gate.0 gate.1 ∙ sym (recomputed-at values net gate.0 gate.1))
-        (cases_lt net (input_count c))
+          (λ low. is.inputs net low ∙ sym ((starts_recomputed values).inputs net low))
+          (λ high. let gate = gate_from_IsGate c net (high, below) in is.gates net gate.0 gate.1 ∙ sym (recomputed-at values net gate.0 gate.1))
+          (cases_lt net (input_count c))
 
   pub valuation-only : IsAccepted c → (values : List Bool) → IsValuation c bits values → values ≡ valuation c bits
   valuation-only accepted values is = sym (meet accepted (after_rounds c bits) (λ n. values) starts_first (valued_starts values is) (λ n. refl) (λ n. recomputed-same values is))

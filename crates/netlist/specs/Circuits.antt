@@ -20,13 +20,13 @@ abbrev pub c17 : Circuit
 c17 = record {
   inputs = codes "1" ∷ codes "2" ∷ codes "3" ∷ codes "6" ∷ codes "7" ∷ [];
   gates =
-    gate (codes "10") Nand (0 ∷ 2 ∷ [])
-    ∷ gate (codes "11") Nand (2 ∷ 3 ∷ [])
-    ∷ gate (codes "16") Nand (1 ∷ 6 ∷ [])
-    ∷ gate (codes "19") Nand (6 ∷ 4 ∷ [])
-    ∷ gate (codes "22") Nand (5 ∷ 7 ∷ [])
-    ∷ gate (codes "23") Nand (7 ∷ 8 ∷ [])
-    ∷ [];
+      gate (codes "10") Nand (0 ∷ 2 ∷ [])
+      ∷ gate (codes "11") Nand (2 ∷ 3 ∷ [])
+      ∷ gate (codes "16") Nand (1 ∷ 6 ∷ [])
+      ∷ gate (codes "19") Nand (6 ∷ 4 ∷ [])
+      ∷ gate (codes "22") Nand (5 ∷ 7 ∷ [])
+      ∷ gate (codes "23") Nand (7 ∷ 8 ∷ [])
+      ∷ [];
   outputs = 9 ∷ 10 ∷ [];
 }
 

@@ -1,8 +1,12 @@
 -- What some nets are computed from.
-use Rattle.std.specs.Prelude.{◌≡◌, ℕ, zero, suc, Bool, true, false, List, [], ◌∷◌, ◌++◌, length, fold, filter, flat_map, if◌then◌else◌, refl}
+use Rattle.std.specs.Prelude.{◌≡◌, ℕ, zero, suc, Bool, true, false, List, [], ◌∷◌, ◌++◌, length, fold, filter, flat_map, Contains, ◌⊎◌, if◌then◌else◌, refl}
 use Rattle.netlist.specs.Circuit.{Circuit, fanin}
 use Rattle.netlist.specs.Circuits.{half, c17}
-use Rattle.netlist.specs.Order.{is_among, topological}
+use Rattle.netlist.specs.Order.{Reaches, is_among, topological}
+
+-- among the nets, or reached from one of them
+abbrev pub IsReachedFrom : Circuit → List ℕ → ℕ → Type 0
+IsReachedFrom c nets net = Contains nets net ⊎ ((from : ℕ) × Contains nets from × Reaches c from net)
 
 -- with the net, once
 abbrev pub with_net : List ℕ → ℕ → List ℕ
@@ -16,7 +20,7 @@ abbrev pub reached : Circuit → List ℕ → ℕ → List ℕ
 reached c nets zero = nets
 reached c nets (suc rounds) = with_fanin c (reached c nets rounds)
 
--- the net is in the least set that has the nets and all that each gate in it reads
+-- the net is in the least set that has the nets and all that each gate in it reads: as many rounds as there are gates give it
 abbrev pub is_in_cone : Circuit → List ℕ → ℕ → Bool
 is_in_cone c nets net = is_among (reached c nets (length c.gates)) net
 

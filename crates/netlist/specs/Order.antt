@@ -1,7 +1,8 @@
 -- Which nets a net is computed from, and an order of the gates in which each comes after its inputs.
-use Rattle.std.specs.Prelude.{◌≡◌, ℕ, zero, suc, ◌<◌, Bool, not, ◌&&◌, ◌||◌, ◌⊎◌, ◌↔◌, List, [], ◌∷◌, ◌++◌, length, take, nat_lt, nat_eq, All, Contains, find, option_to_list, slice_get, Option, Some, refl}
+use Rattle.std.specs.Prelude.{◌≡◌, ℕ, zero, suc, ◌<◌, Bool, not, ◌&&◌, ◌||◌, ◌⊎◌, ◌↔◌, List, [], ◌∷◌, ◌++◌, length, take, nat_lt, nat_eq, All, Contains, find, option_to_list, slice_get, Some, refl}
 use Rattle.std.specs.List.{list_any, list_all, IsDistinct}
-use Rattle.netlist.specs.Circuit.{Circuit, IsGate, input_count, net_count, gate_nets, fanin}
+use Rattle.std.proofs.Math.Dec.{lit<}
+use Rattle.netlist.specs.Circuit.{Circuit, input_count, net_count, gate_nets, fanin}
 use Rattle.netlist.specs.Circuits.{half, c17, late, looped}
 
 -- the gate of the net reads the other net
@@ -13,20 +14,37 @@ pub data Reaches (c : Circuit) : ℕ → ℕ → Type 0 where
   step : {net input : ℕ} → IsInput c net input → Reaches c net input
   steps : {net input to : ℕ} → IsInput c net input → Reaches c input to → Reaches c net to
 
+late-reads : IsInput late 1 2
+late-reads = (0, lit< tt, refl)
+
+-- z reads y, and y reads a
+late-reaches : Reaches late 1 0
+late-reaches = steps {input = 2} (0, lit< tt, refl) (step (0, lit< tt, refl))
+
+looped-reaches_itself : Reaches looped 1 1
+looped-reaches_itself = step (0, lit< tt, refl)
+
 -- what is read or put out is a net, and no net reaches itself
 pub record IsAccepted (c : Circuit) : Type 0 where
   pub inputs : (net input : ℕ) → IsInput c net input → input < net_count c
   pub outputs : All (λ net. net < net_count c) c.outputs
   pub no_cycle : (net : ℕ) → ¬ Reaches c net net
 
+looped-not_accepted : ¬ IsAccepted looped
+looped-not_accepted accepted = accepted.no_cycle 1 looped-reaches_itself
+
 abbrev pub is_among : List ℕ → ℕ → Bool
 is_among nets net = list_any (nat_eq net) nets
 
--- the gate is not yet listed, and all that it reads is an input or listed
-abbrev pub is_next : Circuit → List ℕ → ℕ → Bool
-is_next c listed net = not (is_among listed net) && list_all (λ input. nat_lt input (input_count c) || is_among listed input) (fanin c net)
+-- an input, or listed
+abbrev pub is_ready : Circuit → List ℕ → ℕ → Bool
+is_ready c listed net = nat_lt net (input_count c) || is_among listed net
 
--- with the first such gate, if there is one
+-- not yet listed, and all that its gate reads is an input or listed
+abbrev pub is_next : Circuit → List ℕ → ℕ → Bool
+is_next c listed net = not (is_among listed net) && list_all (is_ready c listed) (fanin c net)
+
+-- with the least such gate, if there is one
 abbrev pub with_next : Circuit → List ℕ → List ℕ
 with_next c listed = listed ++ option_to_list (find (is_next c listed) (gate_nets c))
 
@@ -50,8 +68,9 @@ late-order = refl
 looped-order : topological looped ≡ []
 looped-order = refl
 
--- each gate's net once, and after all that its gate reads
-pub record IsTopological (c : Circuit) (listed : List ℕ) : Type 0 where
+-- the list has each net of which P holds once, and after all that the net's gate reads
+pub record IsTopologicalOrder (c : Circuit) (P : ℕ → Type 0) (listed : List ℕ) : Type 0 where
   pub no_net_twice : IsDistinct nat_eq listed
-  pub all_gates : (net : ℕ) → Contains listed net ↔ IsGate c net
-  pub after_inputs : (place net input : ℕ) → slice_get listed place ≡ Some net → IsInput c net input → (input < input_count c) ⊎ Contains (take place listed) input
+  pub each : (net : ℕ) → Contains listed net ↔ P net
+  pub after_inputs : (place net input : ℕ) → slice_get listed place ≡ Some net → IsInput c net input
+      → (input < input_count c) ⊎ Contains (take place listed) input

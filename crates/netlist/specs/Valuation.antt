@@ -35,5 +35,6 @@ half-at_11 : valuation half (true ∷ true ∷ []) ≡ true ∷ true ∷ false �
 half-at_11 = refl
 
 -- the inputs 1, 3 and 7 are 1
-c17-at_10101 : valuation c17 (true ∷ false ∷ true ∷ false ∷ true ∷ []) ≡ true ∷ false ∷ true ∷ false ∷ true ∷ false ∷ true ∷ true ∷ false ∷ true ∷ true ∷ []
+c17-at_10101 : valuation c17 (true ∷ false ∷ true ∷ false ∷ true ∷ [])
+    ≡ true ∷ false ∷ true ∷ false ∷ true ∷ false ∷ true ∷ true ∷ false ∷ true ∷ true ∷ []
 c17-at_10101 = refl

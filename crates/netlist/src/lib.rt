@@ -13,4 +13,7 @@ mod gate_word;
 mod laws;
 
 pub use gate_word::GateWord;
-pub use laws::{one_valuation, polynomials_are_truth};
+pub use laws::{
+    accepted_by_order, cone_is_complete, cone_is_reached, one_valuation, polynomials_are_truth,
+    topological_is_complete,
+};

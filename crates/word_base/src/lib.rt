@@ -13,6 +13,8 @@ mod assign;
 mod decomp;
 mod kind_name;
 mod levels;
+#[cfg(test)]
+mod tests;
 mod weight;
 
 pub use assign::Assign;
