@@ -1,5 +1,6 @@
 -- Tables of integers over levels, and their two parts at a decomposition.
-use Rattle.std.specs.Prelude.{◌≡◌, ℕ, zero, suc, ◌+◌, ℤ, pos, negsuc, neg_ℤ, ◌+ℤ◌, ◌-ℤ◌, ◌*ℤ◌, List, [], ◌∷◌, ◌++◌, Bool, true, false, refl}
+use Rattle.std.specs.Prelude.{◌≡◌, ℕ, zero, suc, ◌+◌, ℤ, pos, negsuc, neg_ℤ, ◌+ℤ◌, ◌-ℤ◌, ◌*ℤ◌, List, [], ◌∷◌, ◌++◌, Bool, true, false, ◌&&◌, refl}
+use Rattle.std.specs.Ordering.{int_eq}
 use Rattle.word_base.specs.declared.decomp.Decomp.{Decomp}
 use Rattle.word_base.specs.declared.decomp.Decomp.TheVariants.{S, P, N}
 
@@ -41,8 +42,8 @@ minus = zip_with (λ x y. x -ℤ y)
 abbrev pub times : Table → Table → Table
 times = zip_with (λ x y. x *ℤ y)
 
-abbrev pub negative : Table → Table
-negative = each neg_ℤ
+abbrev pub opposite : Table → Table
+opposite = each neg_ℤ
 
 abbrev pub multiple : ℤ → Table → Table
 multiple k = each (λ x. k *ℤ x)
@@ -65,6 +66,12 @@ abbrev pub merged : Decomp → Table → Table → Table
 merged S p q = halves p q
 merged P p q = halves p (plus p q)
 merged N p q = halves (plus p q) p
+
+abbrev pub same_table : Table → Table → Bool
+same_table (entry x) (entry y) = int_eq x y
+same_table (halves a b) (halves c d) = same_table a c && same_table b d
+same_table (entry x) (halves c d) = false
+same_table (halves a b) (entry y) = false
 
 -- the table of so many levels whose entry at the bits, the top level's first, is a function of them
 abbrev pub tabulate : ℕ → (List Bool → ℤ) → Table

@@ -1,3 +1,4 @@
+pub mod Fault
 pub mod Kind
 pub mod Levels
 pub mod Range

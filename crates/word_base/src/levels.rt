@@ -35,6 +35,11 @@ pub enum LevelsFault {
 }
 
 impl fmt::Display for LevelsFault {
+    ghost use Rattle.std.specs.Prelude.{Some};
+    ghost use Rattle.word_base.specs.Fault.{fault_text};
+
+    ghost output = { λ fault. Some (fault_text fault) };
+
     fn fmt<W: fmt::Write>(&self, f: &mut fmt::Formatter<W>) -> fmt::Result {
         match self {
             LevelsFault::TooMany => write!(f, "more than 4352 levels"),

@@ -29,6 +29,10 @@ impl Model for Weight {
 pub struct Overflow;
 
 impl fmt::Display for Overflow {
+    ghost use Rattle.std.specs.Prelude.{Some, codes};
+
+    ghost output = { λ _. Some (codes "the result needs more than 127 bits") };
+
     fn fmt<W: fmt::Write>(&self, f: &mut fmt::Formatter<W>) -> fmt::Result {
         write!(f, "the result needs more than 127 bits")
     }

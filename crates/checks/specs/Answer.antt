@@ -1,0 +1,56 @@
+-- What is answered to a check.
+use Rattle.std.specs.Prelude.{◌≡◌, ℕ, ℤ, pos, negsuc, Bool, true, false, List, [], ◌∷◌, Option, Some, None, if◌then◌else◌, refl}
+use Rattle.std.specs.Option.{option_map_or}
+use Rattle.std.specs.Ordering.{int_eq}
+use Rattle.netlist.specs.Circuit.{Circuit}
+use Rattle.netlist.specs.Circuits.{half}
+use Rattle.spec_lang.specs.Specification.{Check, Specification, half_adder, half_adder_check}
+use Rattle.tables.specs.Canonical.{node_count}
+use Rattle.tables.specs.Table.{Table, entry, halves}
+use Rattle.word_base.specs.declared.kind_name.KindName.{KindName}
+use Rattle.word_base.specs.declared.kind_name.KindName.TheVariants.{StarBmd}
+use Rattle.checks.specs.Sides.{side}
+
+-- where two tables differ: the bits from the top level down, and both entries
+pub record Difference : Type 0 where
+  pub at : List Bool
+  pub left : ℤ
+  pub right : ℤ
+
+abbrev pub with_bit : Bool → Difference → Difference
+with_bit bit d = record { at = bit ∷ d.at; left = d.left; right = d.right }
+
+-- the difference in the low halves, and else the one in the high halves
+abbrev pub first_of_halves : Option Difference → Option Difference → Option Difference
+first_of_halves (Some d) high = Some (with_bit false d)
+first_of_halves None (Some d) = Some (with_bit true d)
+first_of_halves None None = None
+
+-- the first difference in the order of the entries, of two tables over the same levels
+abbrev pub first_difference : Table → Table → Option Difference
+first_difference (entry x) (entry y) = if int_eq x y then None else Some (record { at = []; left = x; right = y })
+first_difference (halves a b) (halves c d) = first_of_halves (first_difference a c) (first_difference b d)
+first_difference (entry x) (halves c d) = None
+first_difference (halves a b) (entry y) = None
+
+-- what a line of the report says: the sides are equal, with the nodes of their canonical diagram; they differ, with
+-- both values and the bits of the inputs from the top level down; or a limit was met
+pub data Verdict : Type 0 where
+  equal : ℕ → Verdict
+  different : ℤ → ℤ → List Bool → Verdict
+  overflow : Verdict
+  full : Verdict
+
+-- the answer to a check that meets no limit
+abbrev pub answer : KindName → Circuit → Specification → Check → Verdict
+answer k c s check =
+    option_map_or (λ d. different d.left d.right d.at)
+    (first_difference (side c s check.left) (side c s check.right))
+    (equal (node_count k s.letters (side c s check.left)))
+
+second_entry : first_difference (halves (entry (pos 1)) (entry (pos 2))) (halves (entry (pos 1)) (entry (negsuc 0)))
+    ≡ Some (record { at = true ∷ []; left = pos 2; right = negsuc 0 })
+second_entry = refl
+
+half-answer : answer StarBmd half half_adder half_adder_check ≡ equal 2
+half-answer = refl

@@ -1,0 +1,43 @@
+-- The tables of a check's work by the forward method, from the inputs to the outputs.
+use Rattle.std.specs.Prelude.{◌≡◌, ℕ, Bool, List, [], ◌∷◌, ◌++◌, map, filter, flat_map, length, if◌then◌else◌, refl}
+use Rattle.std.specs.List.{range_with_len}
+use Rattle.std.specs.Option.{option_map_or}
+use Rattle.netlist.specs.Circuit.{Circuit, input_count, gate_of}
+use Rattle.netlist.specs.Cone.{cone, is_in_cone}
+use Rattle.spec_lang.specs.Formula.{Formula}
+use Rattle.spec_lang.specs.Named.{words_named, nets_named, each_once}
+use Rattle.spec_lang.specs.Specification.{Check, Specification}
+use Rattle.spec_lang.specs.Value.{nets_of}
+use Rattle.tables.specs.Table.{same_table}
+use Rattle.checks.specs.Sides.{net_table, side}
+use Rattle.checks.specs.Work.{Piece, pieces, gate_work, word_work, walk}
+use Rattle.checks.specs.FormulaWork.{formula_work}
+
+-- the variable of each input in the cone
+abbrev pub input_work : Circuit → Specification → Check → List Piece
+input_work c s check =
+    pieces 0 (map (net_table c s) (filter (is_in_cone c (nets_named s check)) (range_with_len 0 (input_count c))))
+
+-- the steps of one gate's fold
+abbrev pub gate_work_of : Circuit → Specification → ℕ → List Piece
+gate_work_of c s net =
+    option_map_or (λ gate. gate_work gate.word s.letters 0 (map (net_table c s) gate.inputs)) (gate_of c net) []
+
+abbrev pub word_work_of : Circuit → Specification → ℕ → List Piece
+word_work_of c s w = word_work 0 (map (net_table c s) (nets_of s.words w))
+
+-- the walk to the first difference, where there is one
+abbrev pub difference_work : ℕ → Circuit → Specification → Check → List Piece
+difference_work l c s check =
+    let left = side c s check.left in
+    let right = side c s check.right in
+    if same_table left right then [] else walk s.letters l left right
+
+abbrev pub forward_work : Circuit → Specification → Check → List Piece
+forward_work c s check =
+    input_work c s check
+    ++ flat_map (gate_work_of c s) (cone c (nets_named s check))
+    ++ flat_map (word_work_of c s) (each_once (words_named check.left ++ words_named check.right))
+    ++ formula_work s.letters 0 (side c s) check.left
+    ++ formula_work s.letters 0 (side c s) check.right
+    ++ difference_work 0 c s check

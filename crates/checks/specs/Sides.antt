@@ -1,0 +1,44 @@
+-- The two sides of a check, as tables over the inputs in the order of the specification.
+use Rattle.std.specs.Prelude.{◌≡◌, ℕ, ◌+◌, ◌==◌, pos, Bool, true, false, List, [], ◌∷◌, map, length, if◌then◌else◌, refl}
+use Rattle.std.specs.List.{range_with_len}
+use Rattle.netlist.specs.Circuit.{Circuit, input_count}
+use Rattle.netlist.specs.Circuits.{half}
+use Rattle.netlist.specs.Polynomial.{number_of}
+use Rattle.netlist.specs.Valuation.{bit_of, valuation}
+use Rattle.spec_lang.specs.Formula.{Formula}
+use Rattle.spec_lang.specs.Specification.{Check, Specification, half_adder, half_adder_check}
+use Rattle.spec_lang.specs.Value.{value}
+use Rattle.tables.specs.Table.{Table, tabulate, entries}
+
+-- the first place of a number in a list, and the list's length where it has none
+abbrev pub place_in : List ℕ → ℕ → ℕ
+place_in [] n = 0
+place_in (m ∷ ms) n = if m == n then 0 else place_in ms n + 1
+
+-- the values of the numbers below count, where the bits are those of the listed ones in order; 0 for the others
+abbrev pub placed : ℕ → List ℕ → List Bool → List Bool
+placed count listed bits = map (λ n. bit_of bits (place_in listed n)) (range_with_len 0 count)
+
+-- the values of all nets, where the bits are those of the inputs from the top level down
+abbrev pub net_values : Circuit → Specification → List Bool → List Bool
+net_values c s bits = valuation c (placed (input_count c) s.order bits)
+
+-- the table of a net
+abbrev pub net_table : Circuit → Specification → ℕ → Table
+net_table c s net = tabulate (length s.order) (λ bits. number_of (bit_of (net_values c s bits) net))
+
+-- the table of a formula
+abbrev pub side : Circuit → Specification → Formula → Table
+side c s formula = tabulate (length s.order) (λ bits. value s.words (net_values c s bits) formula)
+
+placed-third : placed 3 (2 ∷ 0 ∷ []) (true ∷ false ∷ []) ≡ false ∷ false ∷ true ∷ []
+placed-third = refl
+
+half-left : entries (side half half_adder half_adder_check.left) ≡ pos 0 ∷ pos 1 ∷ pos 1 ∷ pos 2 ∷ []
+half-left = refl
+
+half-right : side half half_adder half_adder_check.right ≡ side half half_adder half_adder_check.left
+half-right = refl
+
+half-carry : entries (net_table half half_adder 3) ≡ pos 0 ∷ pos 0 ∷ pos 0 ∷ pos 1 ∷ []
+half-carry = refl

@@ -1,0 +1,38 @@
+ghost use Rattle.std.specs.Prelude.{◌≡◌};
+ghost use Rattle.checks.specs.Report.{status_number};
+
+/// How a run ended.
+#[derive(Clone, Copy, Debug, PartialEq, Eq)]
+pub enum Status {
+    /// Every check is equal.
+    Done,
+    /// Some check is different, and none met a limit.
+    Differs,
+    /// The words, the netlist or the specification are refused.
+    Refused,
+    /// Some check left the range of weights, or filled the cells.
+    Limited,
+    /// A file could not be read. Nothing is written.
+    ReadFault,
+    /// The report could not be written whole.
+    WriteFault,
+    /// Want of memory. Nothing is written.
+    NoMemory,
+}
+
+impl Status {
+    /// The status that a program ends with.
+    pub fn number(self) -> u8
+        ensures { result ≡ status_number self }
+    {
+        match self {
+            Status::Done => 0,
+            Status::Differs => 1,
+            Status::Refused => 2,
+            Status::Limited => 3,
+            Status::ReadFault => 4,
+            Status::WriteFault => 5,
+            Status::NoMemory => 6,
+        }
+    }
+}
