@@ -1,6 +1,6 @@
 -- The tables of a check's work by the backward method: each side is built with each net as a variable, and then the
 -- top variable is replaced by its gate's polynomial, until inputs alone are left.
-use Rattle.std.specs.Prelude.{◌≡◌, ℕ, ◌+◌, ◌-◌, ℤ, Bool, List, [], ◌∷◌, ◌++◌, map, reverse, flat_map, length, replicate, drop, if◌then◌else◌, refl}
+use Rattle.std.specs.Prelude.{ℕ, ◌+◌, List, [], ◌∷◌, ◌++◌, map, reverse, flat_map, length, replicate, drop}
 use Rattle.std.specs.Option.{option_map_or}
 use Rattle.netlist.specs.Circuit.{Circuit, Gate, net_count, gate_of}
 use Rattle.netlist.specs.Cone.{cone}
@@ -13,7 +13,7 @@ use Rattle.spec_lang.specs.Value.{value, nets_of}
 use Rattle.tables.specs.Table.{Table, plus, minus, times, part0, part1, tabulate}
 use Rattle.word_base.specs.Kind.{usual_letter}
 use Rattle.word_base.specs.declared.decomp.Decomp.{Decomp}
-use Rattle.word_base.specs.declared.decomp.Decomp.TheVariants.{S, P, N}
+use Rattle.word_base.specs.declared.decomp.Decomp.TheVariants.{S}
 use Rattle.word_base.specs.declared.kind_name.KindName.{KindName}
 use Rattle.checks.specs.Sides.{place_in, placed}
 use Rattle.checks.specs.Work.{Piece, pieces, add_work, sub_work, mul_work, gate_table, gate_work, word_work}
@@ -67,7 +67,7 @@ cut_work d c (g ∷ gs) inputs ds l f =
     let nets = gs ++ inputs in
     option_map_or
     (λ gate. cut_gate_work d below nets l f gate
-             ++ cut_work d c gs inputs below (l + 1) (replaced d f (gate_table gate.word (map (variable nets) gate.inputs))))
+    ++ cut_work d c gs inputs below (l + 1) (replaced d f (gate_table gate.word (map (variable nets) gate.inputs))))
     (gate_of c g) []
 
 abbrev pub side_work : KindName → Circuit → Specification → Check → Formula → List Piece

@@ -1,10 +1,9 @@
 -- The tables of a check's work by the forward method, from the inputs to the outputs.
-use Rattle.std.specs.Prelude.{◌≡◌, ℕ, Bool, List, [], ◌∷◌, ◌++◌, map, filter, flat_map, length, if◌then◌else◌, refl}
+use Rattle.std.specs.Prelude.{ℕ, List, [], ◌++◌, map, filter, flat_map, if◌then◌else◌}
 use Rattle.std.specs.List.{range_with_len}
 use Rattle.std.specs.Option.{option_map_or}
 use Rattle.netlist.specs.Circuit.{Circuit, input_count, gate_of}
 use Rattle.netlist.specs.Cone.{cone, is_in_cone}
-use Rattle.spec_lang.specs.Formula.{Formula}
 use Rattle.spec_lang.specs.Named.{words_named, nets_named, each_once}
 use Rattle.spec_lang.specs.Specification.{Check, Specification}
 use Rattle.spec_lang.specs.Value.{nets_of}

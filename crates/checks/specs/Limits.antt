@@ -1,5 +1,5 @@
 -- When a limit may be answered in place of a check's answer.
-use Rattle.std.specs.Prelude.{◌≡◌, ℕ, ◌+◌, ◌-◌, ◌*◌, ◌≤◌, ◌==◌, Bool, true, false, not, ◌&&◌, ◌||◌, List, [], ◌∷◌, length, drop, fold, if◌then◌else◌, nat_le, refl}
+use Rattle.std.specs.Prelude.{ℕ, ◌+◌, ◌-◌, ◌*◌, ◌==◌, Bool, true, not, ◌&&◌, ◌||◌, List, [], ◌∷◌, length, drop, if◌then◌else◌, nat_le}
 use Rattle.std.specs.List.{list_all}
 use Rattle.std.specs.Option.{option_map_or}
 use Rattle.netlist.specs.Circuit.{Circuit}
@@ -35,7 +35,7 @@ abbrev pub values_in_range : Circuit → Specification → Check → Bool
 values_in_range c s check =
     option_map_or
     (λ d. let values = net_values c s d.at in
-          all_in_range s.words values check.left && all_in_range s.words values check.right)
+    all_in_range s.words values check.left && all_in_range s.words values check.right)
     (first_difference (side c s check.left) (side c s check.right)) true
 
 -- the check is over the range of weights: some table of its work does not fit, or some value does not

@@ -6,7 +6,7 @@ use Rattle.netlist.specs.Circuits.{half}
 use Rattle.netlist.specs.Polynomial.{number_of}
 use Rattle.netlist.specs.Valuation.{bit_of, valuation}
 use Rattle.spec_lang.specs.Formula.{Formula}
-use Rattle.spec_lang.specs.Specification.{Check, Specification, half_adder, half_adder_check}
+use Rattle.spec_lang.specs.Specification.{Specification, half_adder, half_adder_check}
 use Rattle.spec_lang.specs.Value.{value}
 use Rattle.tables.specs.Table.{Table, tabulate, entries}
 

@@ -1,9 +1,9 @@
 -- The tables that the operations on diagrams go through. They serve to say when an operation may meet a limit.
-use Rattle.std.specs.Prelude.{◌≡◌, ℕ, ◌+◌, ◌*◌, ℤ, pos, List, [], ◌∷◌, ◌++◌, map, length, if◌then◌else◌, refl}
+use Rattle.std.specs.Prelude.{ℕ, ◌+◌, ◌*◌, ℤ, pos, List, [], ◌∷◌, ◌++◌, map, if◌then◌else◌}
 use Rattle.netlist.specs.Polynomial.{step, is_negated}
 use Rattle.netlist.specs.declared.gate_word.GateWord.{GateWord}
 use Rattle.netlist.specs.declared.gate_word.GateWord.TheVariants.{And, Nand, Or, Nor, Xor, Xnor, Not, Buff}
-use Rattle.tables.specs.Table.{Table, entry, halves, each, zip_with, plus, minus, times, opposite, multiple, part0, part1, same_table}
+use Rattle.tables.specs.Table.{Table, entry, each, zip_with, plus, minus, times, opposite, multiple, part0, part1, same_table}
 use Rattle.word_base.specs.declared.decomp.Decomp.{Decomp}
 use Rattle.word_base.specs.declared.decomp.Decomp.TheVariants.{S, P, N}
 
@@ -129,15 +129,15 @@ walk [] l a b = pieces l (a ∷ b ∷ [])
 walk (S ∷ ds) l a b =
     pieces l (a ∷ b ∷ [])
     ++ (if same_table (part0 S a) (part0 S b)
-        then walk ds (l + 1) (part1 S a) (part1 S b)
-        else walk ds (l + 1) (part0 S a) (part0 S b))
+    then walk ds (l + 1) (part1 S a) (part1 S b)
+    else walk ds (l + 1) (part0 S a) (part0 S b))
 walk (P ∷ ds) l a b =
     pieces l (a ∷ b ∷ [])
     ++ (if same_table (part0 P a) (part0 P b)
-        then walk ds (l + 1) (part1 P a) (part1 P b)
-        else walk ds (l + 1) (part0 P a) (part0 P b))
+    then walk ds (l + 1) (part1 P a) (part1 P b)
+    else walk ds (l + 1) (part0 P a) (part0 P b))
 walk (N ∷ ds) l a b =
     pieces l (a ∷ b ∷ []) ++ pieces (l + 1) (sum_of_parts N a ∷ sum_of_parts N b ∷ [])
     ++ (if same_table (sum_of_parts N a) (sum_of_parts N b)
-        then walk ds (l + 1) (part0 N a) (part0 N b)
-        else walk ds (l + 1) (sum_of_parts N a) (sum_of_parts N b))
+    then walk ds (l + 1) (part0 N a) (part0 N b)
+    else walk ds (l + 1) (sum_of_parts N a) (sum_of_parts N b))
