@@ -61,6 +61,13 @@ gcd_assoc a b c = same_gcd (gcd a b) c a (gcd b c)
     (λ d p q. (dvd_trans d p (gcd-divides_first a b), divides_gcd d b c (dvd_trans d p (gcd-divides_second a b)) q))
     (λ d p q. (divides_gcd d a b p (dvd_trans d q (gcd-divides_first b c)), dvd_trans d q (gcd-divides_second b c)))
 
+-- two pairs in one, with their second and third numbers exchanged
+pub gcd_exchange : (a b c d : ℕ) → gcd (gcd a b) (gcd c d) ≡ gcd (gcd a c) (gcd b d)
+gcd_exchange a b c d =
+    gcd_assoc a b (gcd c d)
+    ∙ ap (gcd a) (sym (gcd_assoc b c d) ∙ ap (λ (n : ℕ). gcd n d) (gcd_comm b c) ∙ gcd_assoc c b d)
+    ∙ sym (gcd_assoc a c (gcd b d))
+
 pub gcd-is_zero : (a b : ℕ) → (gcd a b ≡ 0) ↔ ((a ≡ 0) × (b ≡ 0))
 gcd-is_zero a b = (
   (λ e. (zero-dvd.0 (subst (λ (n : ℕ). n ∣ a) e (gcd-divides_first a b)), zero-dvd.0 (subst (λ (n : ℕ). n ∣ b) e (gcd-divides_second a b)))),

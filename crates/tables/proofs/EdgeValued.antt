@@ -1,22 +1,17 @@
 -- The joining rule of edge-valued binary decision diagrams.
-use Rattle.std.proofs.Common.{◌≡◌, refl, sym, ◌∙◌, ap, ℕ, ◌+◌, ℤ, pos, ◌+ℤ◌, ◌-ℤ◌, List, ◌∷◌, true, arith}
+use Rattle.std.proofs.Common.{◌≡◌, refl, sym, ◌∙◌, ap, ℕ, ◌+◌, pos, ◌+ℤ◌, ◌-ℤ◌, List, ◌∷◌, true, arith}
 use Rattle.std.proofs.lemmas.Int.{ints}
 use Rattle.word_base.specs.declared.decomp.Decomp.{Decomp}
 use Rattle.word_base.specs.declared.decomp.Decomp.TheVariants.{S, P, N}
 use Rattle.word_base.specs.declared.kind_name.KindName.TheVariants.{Evbdd}
 use Rattle.tables.specs.Table.{each, merged}
-use Rattle.tables.specs.Tree.{Tree, weights, tree, skips, node_join}
+use Rattle.tables.specs.Tree.{Tree, weights, skips, node_join}
 use Rattle.tables.specs.Parts.{low_part, high_part}
 use Rattle.tables.specs.Meaning.{weighed, shape_table, table}
-use Rattle.tables.specs.Canonical.{IsCanonical}
 use Rattle.tables.specs.Laws.{are_allowed, AreJoinable, IsSkip}
 use Rattle.tables.proofs.TableLaws.{both_halves, each-same, each-each}
 use Rattle.tables.proofs.TreeLaws.{same-same, same-eq, shape_table-at, and_right}
-use Rattle.tables.proofs.KindLaws.{HasRule, by_joins, low_part-at, high_part-at}
-
--- no tree of the kind has a second weight
-pub no_extra : (ds : List Decomp) (l : ℕ) (t : Tree) → are_allowed Evbdd ds ≡ true → IsCanonical Evbdd ds l t → t.root.extra ≡ pos 0
-no_extra = by_joins Evbdd (λ t. t.root.extra ≡ pos 0) (λ c. refl) (λ d ds l low high j p q s. refl)
+use Rattle.tables.proofs.KindLaws.{HasRule, no_extra, with_weights, low_part-at, high_part-at}
 
 skip_tells : (d : Decomp) (ds : List Decomp) (l : ℕ) (low high : Tree) → AreJoinable Evbdd d ds l low high → skips Evbdd d low high ≡ true → IsSkip Evbdd d low high
 skip_tells S ds l low high j h = same-same low high h
@@ -46,9 +41,6 @@ node_table S ds l low high j =
     (each-each (weighed Evbdd root) (weighed Evbdd at_high) highs
     ∙ each-same _ (weighed Evbdd high.root) (λ x. omega (arith, ints)) highs)
 
-with_no_extra : (t : Tree) (w : ℤ) → w ≡ t.root.weight → t.root.extra ≡ pos 0 → tree w (pos 0) t.shape ≡ t
-with_no_extra t w p q = ap (λ (x : ℤ). tree x (pos 0) t.shape) p ∙ ap (λ (y : ℤ). tree t.root.weight y t.shape) (sym q)
-
 node_parts : (d : Decomp) (ds : List Decomp) (l : ℕ) (low high : Tree) → AreJoinable Evbdd d ds l low high →
     (low_part Evbdd l (node_join Evbdd d l low high) ≡ low) × (high_part Evbdd d l (node_join Evbdd d l low high) ≡ high)
 node_parts d ds l low high j =
@@ -57,9 +49,9 @@ node_parts d ds l low high j =
     let at_high = weights (high.root.weight -ℤ low.root.weight) (pos 0) in
     let below = and_right _ (are_allowed Evbdd ds) j.allowed in (
       low_part-at Evbdd l root at_low at_high low.shape high.shape
-          ∙ with_no_extra low low.root.weight refl (no_extra ds (l + 1) low below j.low_canonical),
+          ∙ with_weights low low.root.weight (pos 0) refl (sym (no_extra Evbdd refl ds (l + 1) low below j.low_canonical)),
       high_part-at Evbdd d l root at_low at_high low.shape high.shape
-          ∙ with_no_extra high (low.root.weight +ℤ (high.root.weight -ℤ low.root.weight)) (omega (arith, ints)) (no_extra ds (l + 1) high below j.high_canonical),
+          ∙ with_weights high (low.root.weight +ℤ (high.root.weight -ℤ low.root.weight)) (pos 0) (omega (arith, ints)) (sym (no_extra Evbdd refl ds (l + 1) high below j.high_canonical)),
     )
 
 pub edge_valued_rule : HasRule Evbdd

@@ -10,7 +10,7 @@ use Rattle.word_base.specs.declared.decomp.Decomp.TheVariants.{S, P, N}
 use Rattle.word_base.specs.declared.kind_name.KindName.{KindName}
 use Rattle.word_base.specs.declared.kind_name.KindName.TheVariants.{Evbdd, StarBmd, Hdd, KStarBmd}
 use Rattle.tables.specs.Table.{Table, entry, halves, IsOver, each, part0, part1, merged, constant_table}
-use Rattle.tables.specs.Tree.{Weights, Shape, leaf, node, Tree, constant, skips, node_join, tjoin}
+use Rattle.tables.specs.Tree.{Weights, Shape, leaf, node, Tree, tree, constant, skips, node_join, tjoin}
 use Rattle.tables.specs.Parts.{low_edge, high_edge, low_of, high_of, low_part, high_part, high_below}
 use Rattle.tables.specs.Meaning.{weighed, leaf_value, shape_table, table}
 use Rattle.tables.specs.Canonical.{canonical, IsCanonical}
@@ -106,6 +106,32 @@ by_joins k Has at_constant at_node (d ∷ ds) l t allowed c =
     let high = by_joins k Has at_constant at_node ds (l + 1) c.1 below c.3 in
     subst Has (sym c.4)
     (chosen Has (skips k d c.0 c.1) c.0 (node_join k d l c.0 c.1) (λ e. low) (at_node d ds l c.0 c.1 j low high))
+
+-- only a K*BMD's edges have a second weight
+abbrev pub has_extra : KindName → Bool
+has_extra Evbdd = false
+has_extra StarBmd = false
+has_extra Hdd = false
+has_extra KStarBmd = true
+
+constant-no_extra : (k : KindName) (c : ℤ) → has_extra k ≡ false → (constant k c).root.extra ≡ pos 0
+constant-no_extra Evbdd c h = refl
+constant-no_extra StarBmd c h = refl
+constant-no_extra Hdd c h = refl
+constant-no_extra KStarBmd c h = cc
+
+node_join-no_extra : (k : KindName) (d : Decomp) (l : ℕ) (low high : Tree) → has_extra k ≡ false → (node_join k d l low high).root.extra ≡ pos 0
+node_join-no_extra Evbdd d l low high h = refl
+node_join-no_extra StarBmd d l low high h = refl
+node_join-no_extra Hdd d l low high h = refl
+node_join-no_extra KStarBmd d l low high h = absurd (cc)
+
+pub no_extra : (k : KindName) → has_extra k ≡ false → (ds : List Decomp) (l : ℕ) (t : Tree) → are_allowed k ds ≡ true → IsCanonical k ds l t → t.root.extra ≡ pos 0
+no_extra k h = by_joins k (λ t. t.root.extra ≡ pos 0) (λ c. constant-no_extra k c h) (λ d ds l low high j p q s. node_join-no_extra k d l low high h)
+
+-- a tree from its two weights, however they are written
+pub with_weights : (t : Tree) (w e : ℤ) → w ≡ t.root.weight → e ≡ t.root.extra → tree w e t.shape ≡ t
+with_weights t w e p q = ap (λ (x : ℤ). tree x e t.shape) p ∙ ap (λ (y : ℤ). tree t.root.weight y t.shape) q
 
 -- a tree with no node is a constant
 pub leaves : (k : KindName) (ds : List Decomp) (l : ℕ) (t : Tree) → are_allowed k ds ≡ true → IsCanonical k ds l t → t.shape ≡ leaf → (c : ℤ) × (t ≡ constant k c)

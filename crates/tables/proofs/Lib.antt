@@ -4,3 +4,7 @@ pub mod TreeLaws
 pub mod KindLaws
 pub mod Hybrid
 pub mod EdgeValued
+pub mod Moment
+pub mod Kronecker
+pub mod NodeLaws
+pub mod FitsLaws

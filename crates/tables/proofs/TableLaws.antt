@@ -61,6 +61,16 @@ minus-self zero (halves a b) o = absurd o
 minus-self (suc n) (entry x) o = absurd o
 minus-self (suc n) (halves a b) o = both_halves (minus-self n a o.0) (minus-self n b o.1)
 
+-- a function that takes a sum to a sum, of two functions, does so entry by entry
+pub each-plus : (n : ℕ) (f g : ℤ → ℤ) → ((x y : ℤ) → f (x +ℤ y) ≡ f x +ℤ g y) → (t u : Table) → IsOver n t → IsOver n u →
+    each f (plus t u) ≡ plus (each f t) (each g u)
+each-plus zero f g h (entry x) (entry y) o p = ap entry (h x y)
+each-plus zero f g h (halves a b) u o p = absurd o
+each-plus zero f g h (entry x) (halves c d) o p = absurd p
+each-plus (suc n) f g h (entry x) u o p = absurd o
+each-plus (suc n) f g h (halves a b) (entry y) o p = absurd p
+each-plus (suc n) f g h (halves a b) (halves c d) o p = both_halves (each-plus n f g h a c o.0 p.0) (each-plus n f g h b d o.1 p.1)
+
 -- ---- constants
 pub each-constant_table : (f : ℤ → ℤ) (n : ℕ) (c : ℤ) → each f (constant_table n c) ≡ constant_table n (f c)
 each-constant_table f zero c = refl
@@ -105,3 +115,15 @@ IsOver-part1 n d (entry x) o = absurd o
 IsOver-part1 n S (halves lo hi) o = o.1
 IsOver-part1 n P (halves lo hi) o = IsOver-zip_with n (λ x y. x -ℤ y) hi lo o.1 o.0
 IsOver-part1 n N (halves lo hi) o = IsOver-zip_with n (λ x y. x -ℤ y) lo hi o.0 o.1
+
+-- the first at Shannon, whose high part is a half, and else the second
+abbrev pub at_high_part : {A : Type 0} → Decomp → A → A → A
+at_high_part S x y = x
+at_high_part P x y = y
+at_high_part N x y = y
+
+pub each-merged : (n : ℕ) (d : Decomp) (f g : ℤ → ℤ) → ((x y : ℤ) → f (x +ℤ y) ≡ f x +ℤ g y) → (p q : Table) → IsOver n p → IsOver n q →
+    each f (merged d p q) ≡ merged d (each f p) (each (at_high_part d f g) q)
+each-merged n S f g h p q o r = refl
+each-merged n P f g h p q o r = both_halves refl (each-plus n f g h p q o r)
+each-merged n N f g h p q o r = both_halves (each-plus n f g h p q o r) refl

@@ -1,14 +1,18 @@
--- The laws of a kind, on trees with unbounded weights, and that its canonical diagrams are canonical.
-use Rattle.std.specs.Prelude.{◌≡◌, ℕ, ◌+◌, ℤ, pos, List, [], ◌∷◌, Bool, true, ◌&&◌, ◌↔◌, length}
+-- The laws of a kind, on trees with unbounded weights, and that its canonical diagrams are canonical; and what holds of
+-- lists of nodes, of content, and of tables that fit.
+use Rattle.std.specs.Prelude.{◌≡◌, ℕ, suc, ◌+◌, ℤ, pos, List, [], ◌∷◌, Bool, true, ◌&&◌, ◌⊎◌, ◌↔◌, length}
+use Rattle.std.specs.List.{IsDistinct}
+use Rattle.integers.specs.Gcd.{gcd}
 use Rattle.word_base.specs.Kind.{is_allowed}
 use Rattle.word_base.specs.declared.decomp.Decomp.{Decomp}
 use Rattle.word_base.specs.declared.decomp.Decomp.TheVariants.{S, P, N}
 use Rattle.word_base.specs.declared.kind_name.KindName.{KindName}
 use Rattle.tables.specs.Table.{Table, IsOver, part0, part1, constant_table}
-use Rattle.tables.specs.Tree.{leaf, Tree, constant, tjoin}
+use Rattle.tables.specs.Tree.{Shape, leaf, Tree, constant, same_shape, tjoin}
 use Rattle.tables.specs.Parts.{low_part, high_part}
 use Rattle.tables.specs.Meaning.{table}
-use Rattle.tables.specs.Canonical.{canonical, IsCanonical}
+use Rattle.tables.specs.Canonical.{canonical, IsCanonical, IsNodeOf, has, add_nodes}
+use Rattle.tables.specs.Fits.{fits, content}
 
 -- whether the kind allows each letter
 abbrev pub are_allowed : KindName → List Decomp → Bool
@@ -93,3 +97,31 @@ JoinsAreCanonical k = (ds : List Decomp) (l : ℕ) (t : Tree) → are_allowed k 
 abbrev pub CanonicalStands : KindName → Type 0
 CanonicalStands k = (ds : List Decomp) (l : ℕ) (t : Table) → are_allowed k ds ≡ true →
     IsOver (length ds) t → IsCanonical k ds l (canonical k ds l t) × (table k ds l (canonical k ds l t) ≡ t)
+
+-- ---- nodes, whatever the kind
+
+-- to add the nodes of a shape keeps what was found, and adds its nodes and nothing else
+abbrev pub NodesAreAdded : Type 0
+NodesAreAdded = (s : Shape) (found : List Shape) (n : Shape) → (has (add_nodes s found) n ≡ true) ↔ ((has found n ≡ true) ⊎ IsNodeOf n s)
+
+-- the list of the nodes of a shape has its nodes
+abbrev pub NodesAreListed : Type 0
+NodesAreListed = (s n : Shape) → (has (add_nodes s []) n ≡ true) ↔ IsNodeOf n s
+
+-- no node is added twice
+abbrev pub NodesAreDistinct : Type 0
+NodesAreDistinct = (s : Shape) (found : List Shape) → IsDistinct same_shape found → IsDistinct same_shape (add_nodes s found)
+
+-- nor listed twice
+abbrev pub ListedNodesAreDistinct : Type 0
+ListedNodesAreDistinct = (s : Shape) → IsDistinct same_shape (add_nodes s [])
+
+-- ---- content and fits
+
+-- the content of a table is that of its two parts, at each letter
+abbrev pub ContentOfParts : Type 0
+ContentOfParts = (d : Decomp) (n : ℕ) (t : Table) → IsOver (suc n) t → content t ≡ gcd (content (part0 d t)) (content (part1 d t))
+
+-- a table that fits has parts that fit
+abbrev pub FitsParts : KindName → Type 0
+FitsParts k = (d : Decomp) (ds : List Decomp) (t : Table) → fits k (d ∷ ds) t ≡ true → (fits k ds (part0 d t) ≡ true) × (fits k ds (part1 d t) ≡ true)
