@@ -54,12 +54,12 @@ part0-twice S t = refl
 part0-twice P t = refl
 part0-twice N t = refl
 
-canonical-over : (k : KindName) (d : Decomp) (ds : List Decomp) (l n : ℕ) (t : Table) → IsOver (suc n) t →
+pub canonical-over : (k : KindName) (d : Decomp) (ds : List Decomp) (l n : ℕ) (t : Table) → IsOver (suc n) t →
     canonical k (d ∷ ds) l t ≡ tjoin k d l (canonical k ds (l + 1) (part0 d t)) (canonical k ds (l + 1) (part1 d t))
 canonical-over k d ds l n (entry x) o = absurd o
 canonical-over k d ds l n (halves lo hi) o = refl
 
-constant-leaf : (k : KindName) (c : ℤ) → (constant k c).shape ≡ leaf
+pub constant-leaf : (k : KindName) (c : ℤ) → (constant k c).shape ≡ leaf
 constant-leaf Evbdd c = refl
 constant-leaf StarBmd c = refl
 constant-leaf Hdd c = refl

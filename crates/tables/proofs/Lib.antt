@@ -1,3 +1,4 @@
+pub mod CanonicalLaws
 pub mod Examples
 pub mod TableLaws
 pub mod TreeLaws

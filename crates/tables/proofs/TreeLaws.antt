@@ -115,6 +115,17 @@ above_levels k (d ∷ ds) l m t c h =
     (λ e. above_levels k ds l (m + 1) c.0 c.2 deeper)
     (λ e. is_at-node_join k d m l c.0 c.1 ∙ apart l m h)
 
+-- each node of a canonical tree stands at one of its levels
+pub within_levels : (k : KindName) (ds : List Decomp) (l m : ℕ) (t : Tree) → IsCanonical k ds m t → is_at l t.shape ≡ true → l < m + length ds
+within_levels k [] l m t c h =
+    let none : is_at l t.shape ≡ false = ap (λ (u : Tree). is_at l u.shape) c.1 ∙ is_at-constant k l c.0 in absurd (cc)
+within_levels k (d ∷ ds) l m t c h =
+    let IsWithin : Tree → Type 0 = λ u. is_at l u.shape ≡ true → l < m + suc (length ds) in
+    chosen IsWithin (skips k d c.0 c.1) c.0 (node_join k d m c.0 c.1)
+    (λ e at. let below : l < m + 1 + length ds = within_levels k ds l (m + 1) c.0 c.2 at in omega arith)
+    (λ e at. let here : m ≡ l = eqb-true m l (sym (is_at-node_join k d m l c.0 c.1) ∙ at) in omega arith)
+    (sym (ap (λ (u : Tree). is_at l u.shape) c.4) ∙ h)
+
 -- ---- tables of trees
 IsOver-if : (n : ℕ) (b : Bool) (t u : Table) → IsOver n t → IsOver n u → IsOver n (if b then t else u)
 IsOver-if n b t u o p = chosen (IsOver n) b t u (λ e. o) (λ e. p)
