@@ -1,2 +1,3 @@
 pub mod Body
+pub mod Edge
 pub mod Graph
