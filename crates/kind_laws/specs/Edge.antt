@@ -28,7 +28,8 @@ fields_of level low high = record {
 -- at Davio: the low edge where the high one is the constant 0, and else the node of both
 abbrev pub Joins : ℕ → Edge → Edge → Joined → Type 0
 Joins level low high (Skip e) = IsZero high × (e ≡ low)
-Joins level low high (Node body) = (IsZero high → ⊥) × (body ≡ body_of (fields_of level low high))
+Joins level low high (Node body) =
+    (IsZero high → ⊥) × (body ≡ body_of (fields_of level low high)) × FitsBody (fields_of level low high)
 
 -- words that say something
 abbrev pub IsBody : List ℕ → Type 0

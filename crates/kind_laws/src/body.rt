@@ -8,6 +8,7 @@ use word_base::Weight;
 
 /// A weight as two words, the lower first: its two's complement in 128 bits.
 fn words_of(weight: Weight) -> (u64, u64)
+    ensures in_range { InRange weight }
     ensures low { result.0 ≡ cast_unsigned w128 weight % 2 ^ 64 }
     ensures high { result.1 ≡ cast_unsigned w128 weight / 2 ^ 64 }
 {
@@ -34,7 +35,8 @@ pub fn pack_body(
     added: Weight,
     high_weight: Weight,
 ) -> [u64; 8]
-    ensures { result ≡ body_of (record { level = level; low = low; high = high; low_weight = low_weight; added = added; high_weight = high_weight }) }
+    ensures body { result ≡ body_of (record { level = level; low = low; high = high; low_weight = low_weight; added = added; high_weight = high_weight }) }
+    ensures fits { FitsBody (record { level = level; low = low; high = high; low_weight = low_weight; added = added; high_weight = high_weight }) }
 {
     let first = words_of(low_weight);
     let second = words_of(added);

@@ -1,0 +1,4 @@
+pub mod BuilderLaws
+pub mod EdgeLaws
+pub mod JoinLaws
+pub mod StoreLaws

@@ -1,0 +1,44 @@
+-- What the calls of a builder answer.
+use Rattle.std.specs.Prelude.{◌≡◌, ℕ, ◌+◌, ◌<◌, ◌≤◌, ℤ, length}
+use Rattle.word_base.specs.declared.decomp.Decomp.TheVariants.{P}
+use Rattle.tables.specs.Table.{Table, each, zip_with, part0, part1, merged}
+use Rattle.kind_laws.specs.declared.edge.Edge.{Edge}
+use Rattle.diagram.specs.View.{View, StandsAt, IsEdge, top_of}
+
+-- an edge that has its node at the level or below it
+pub record CanPart (v : View) (level : ℕ) (e : Edge) : Type 0 where
+  pub good : IsEdge v e
+  pub below : level < length v.letters
+  pub not_above : level ≤ top_of v e.node
+
+-- two edges are the low and the high part of an edge at a level, and lie below it
+pub record HasParts (v : View) (level : ℕ) (e low high : Edge) : Type 0 where
+  pub low_table : (t : Table) → StandsAt v level t e → StandsAt v (level + 1) (part0 P t) low
+  pub high_table : (t : Table) → StandsAt v level t e → StandsAt v (level + 1) (part1 P t) high
+  pub low_good : IsEdge v low
+  pub high_good : IsEdge v high
+  pub low_below : level < top_of v low.node
+  pub high_below : level < top_of v high.node
+
+-- two good edges that lie below a level
+pub record CanJoin (v : View) (level : ℕ) (low high : Edge) : Type 0 where
+  pub below : level < length v.letters
+  pub low_good : IsEdge v low
+  pub high_good : IsEdge v high
+  pub low_below : level < top_of v low.node
+  pub high_below : level < top_of v high.node
+
+-- after the call an edge stands for the table whose parts at the level are those of the two
+pub record IsJoin (old new : View) (level : ℕ) (low high e : Edge) : Type 0 where
+  pub table : (p q : Table) → StandsAt old (level + 1) p low → StandsAt old (level + 1) q high → StandsAt new level (merged P p q) e
+  pub good : IsEdge new e
+
+-- After the call an edge stands, at each level from which the operands stand for tables, for what the operation makes
+-- of the entries
+pub record IsOfBoth (op : ℤ → ℤ → ℤ) (old new : View) (a b e : Edge) : Type 0 where
+  pub table : (l : ℕ) (t u : Table) → l ≤ length old.letters → StandsAt old l t a → StandsAt old l u b → StandsAt new l (zip_with op t u) e
+  pub good : IsEdge new e
+
+pub record IsOfEach (op : ℤ → ℤ) (old new : View) (a e : Edge) : Type 0 where
+  pub table : (l : ℕ) (t : Table) → l ≤ length old.letters → StandsAt old l t a → StandsAt new l (each op t) e
+  pub good : IsEdge new e
