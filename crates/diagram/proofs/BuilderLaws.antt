@@ -1,6 +1,6 @@
 -- What a builder's own calls rest on.
-use Rattle.std.proofs.Common.{◌≡◌, refl, sym, ◌∙◌, ap, subst, ℕ, zero, suc, ◌+◌, ◌-◌, ◌<◌, ◌≤◌, ℤ, pos, List, [], ◌∷◌, ◌++◌, Bool, true, false, length, drop, arith, inl, inr}
-use Rattle.std.specs.Prelude.{Some, None, ◌⊎◌, ◌↔◌, ◌≢◌}
+use Rattle.std.proofs.Common.{◌≡◌, refl, sym, ◌∙◌, ap, subst, ℕ, ◌+◌, ◌<◌, ◌≤◌, ℤ, pos, List, length, drop, arith, inl, inr}
+use Rattle.std.specs.Prelude.{Some, ◌↔◌, ◌≢◌}
 use Rattle.word_base.specs.declared.decomp.Decomp.{Decomp}
 use Rattle.word_base.specs.declared.decomp.Decomp.TheVariants.{P}
 use Rattle.word_base.specs.declared.kind_name.KindName.TheVariants.{Hdd}
@@ -8,13 +8,12 @@ use Rattle.tables.specs.Table.{Table, part0, part1, merged, constant_table}
 use Rattle.tables.specs.Tree.{Weights, weights}
 use Rattle.kind_laws.specs.Body.{Fields, body_of, FitsBody}
 use Rattle.kind_laws.specs.Edge.{root_of, IsZero, fields_of, IsBody}
-use Rattle.kind_laws.specs.Graph.{StandsFor}
 use Rattle.kind_laws.specs.declared.edge.Edge.{Edge}
 use Rattle.kind_laws.proofs.GraphLaws.{same_edge, same_table_of_edge}
 use Rattle.diagram.specs.View.{View, find_in, StandsAt, IsEdge, IsKnown, top_of, Keeps, AreAllP, IsGood}
 use Rattle.diagram.specs.Results.{CanPart, HasParts, CanJoin, IsJoin}
 use Rattle.diagram.proofs.EdgeLaws.{allows_all, top_of-node, HasNode, node_of_edge, from_level, constant_stands, node_parts_stand, skipped_parts_stand}
-use Rattle.diagram.proofs.JoinLaws.{stands_somewhere, good_from, node_stands, skip_stands, stays, still_edge, keeps_itself, WasPut, put_keeps, put_good}
+use Rattle.diagram.proofs.JoinLaws.{stands_somewhere, good_from, node_stands, skip_stands, WasPut, put_keeps, put_good}
 
 -- ---- nodes of good edges
 pub node_of : (v : View) (e : Edge) → IsEdge v e → (e.node ≡ 0 → ⊥) → HasNode v 0 e.node
@@ -78,10 +77,11 @@ node_parts v capacity level e low high body good can nonzero found at low_is hig
     let l = low_is f n.fits reads in
     let h = high_is f n.fits reads in
     let both : (t : Table) → StandsAt v level t e → StandsAt v (level + 1) (part0 P t) low × StandsAt v (level + 1) (part1 P t) high =
-            λ t s.
-              let parts = node_parts_stand v level t e f good.all_p can.below n.fits n.known here s in
-              (subst (λ (x : Edge). StandsAt v (level + 1) (part0 P t) x) (sym l) parts.0,
-               subst (λ (x : Edge). StandsAt v (level + 1) (part1 P t) x) (sym h) parts.1) in
+    λ t s.
+    let parts = node_parts_stand v level t e f good.all_p can.below n.fits n.known here s in (
+      subst (λ (x : Edge). StandsAt v (level + 1) (part0 P t) x) (sym l) parts.0,
+      subst (λ (x : Edge). StandsAt v (level + 1) (part1 P t) x) (sym h) parts.1,
+    ) in
     let within : level ≤ length v.letters = let b = can.below in omega arith in
     let deeper : level + 1 ≤ length v.letters = let b = can.below in omega arith in
     let somewhere = stands_somewhere v e level good.all_p within can.not_above can.good in
@@ -117,11 +117,11 @@ node_joins v w capacity level low high id good can keeps fits known nonzero =
     let p = stands_somewhere v low (level + 1) good.all_p deeper low_from can.low_good in
     let q = stands_somewhere v high (level + 1) good.all_p deeper high_from can.high_good in
     let stands : (p q : Table) → StandsAt v (level + 1) p low → StandsAt v (level + 1) q high → StandsAt w level (merged P p q) (record { weight = pos 0; node = id }) =
-            λ p q h g. node_stands v w level low high id p q good.all_p can.below keeps fits known nonzero h g in
+    λ p q h g. node_stands v w level low high id p q good.all_p can.below keeps fits known nonzero h g in
     record {
       table = stands;
       good = good_from w (record { weight = pos 0; node = id }) level (merged P p.0 q.0) (subst (λ (ds : List Decomp). AreAllP ds) (sym keeps.letters) good.all_p)
-        (subst (λ (ds : List Decomp). level ≤ length ds) (sym keeps.letters) within) (stands p.0 q.0 p.1 q.1);
+          (subst (λ (ds : List Decomp). level ≤ length ds) (sym keeps.letters) within) (stands p.0 q.0 p.1 q.1);
     }
 
 -- the store that a node was put into stays good
@@ -142,8 +142,9 @@ put_is_good v new old_capacity capacity level low high id good can fits nonzero 
 pub same_tells : (v : View) (capacity : ℕ) (a b : Edge) → IsGood v capacity → (l : ℕ) (t u : Table) → StandsAt v l t a → StandsAt v l u b → (a ≡ b) ↔ (t ≡ u)
 same_tells v capacity a b good l t u h g =
     let ds = drop l v.letters in
-    let make : ℤ → ℕ → Edge = λ w n. record { weight = w; node = n } in
-    (λ e. same_table_of_edge Hdd (find_in v.known) ds l t u (root_of b) b.node (allows_all ds) refl (subst (λ (x : Edge). StandsAt v l t x) e h) g,
-     λ e.
-       let both = same_edge Hdd (find_in v.known) ds l u (root_of a) (root_of b) a.node b.node good.store.distinct (subst (λ (x : Table). StandsAt v l x a) e h) g in
-       ap (λ (w : ℤ). make w a.node) (ap (λ (w : Weights). w.weight) both.0) ∙ ap (λ (n : ℕ). make b.weight n) both.1)
+    let make : ℤ → ℕ → Edge = λ w n. record { weight = w; node = n } in (
+      λ e. same_table_of_edge Hdd (find_in v.known) ds l t u (root_of b) b.node (allows_all ds) refl (subst (λ (x : Edge). StandsAt v l t x) e h) g,
+      λ e.
+          let both = same_edge Hdd (find_in v.known) ds l u (root_of a) (root_of b) a.node b.node good.store.distinct (subst (λ (x : Table). StandsAt v l x a) e h) g in
+          ap (λ (w : ℤ). make w a.node) (ap (λ (w : Weights). w.weight) both.0) ∙ ap (λ (n : ℕ). make b.weight n) both.1,
+    )

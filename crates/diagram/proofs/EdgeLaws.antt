@@ -1,12 +1,12 @@
 -- Edges of a builder: at which levels they stand, and what their parts stand for.
-use Rattle.std.proofs.Common.{◌≡◌, refl, sym, ◌∙◌, ap, subst, ℕ, zero, suc, ◌+◌, ◌-◌, ◌<◌, ◌≤◌, ℤ, pos, ◌+ℤ◌, List, [], ◌∷◌, Bool, true, false, length, drop, arith, add-one, inl, inr}
-use Rattle.std.specs.Prelude.{Some, None, ◌⊎◌, ◌==◌, ltb}
-use Rattle.std.proofs.lemmas.Bool.{eq-eqb, eqb-true}
+use Rattle.std.proofs.Common.{◌≡◌, refl, sym, ◌∙◌, ap, subst, ℕ, zero, suc, ◌+◌, ◌<◌, ◌≤◌, ℤ, pos, List, [], ◌∷◌, true, false, length, drop, arith, add-one, inl, inr}
+use Rattle.std.specs.Prelude.{Some, ◌⊎◌, ◌==◌}
+use Rattle.std.proofs.lemmas.Bool.{eq-eqb}
 use Rattle.word_base.specs.declared.decomp.Decomp.{Decomp}
 use Rattle.word_base.specs.declared.decomp.Decomp.TheVariants.{P}
 use Rattle.word_base.specs.declared.kind_name.KindName.TheVariants.{Hdd}
-use Rattle.tables.specs.Table.{Table, halves, each, zip_with, minus, part0, part1, constant_table, IsOver}
-use Rattle.tables.specs.Tree.{Weights, Shape, leaf, node, Tree, weights, tree, constant}
+use Rattle.tables.specs.Table.{Table, halves, each, zip_with, part0, part1, constant_table}
+use Rattle.tables.specs.Tree.{Shape, leaf, node, Tree}
 use Rattle.tables.specs.Canonical.{canonical}
 use Rattle.tables.specs.Laws.{are_allowed}
 use Rattle.tables.proofs.CanonicalLaws.{rule_of}
@@ -18,7 +18,7 @@ use Rattle.kind_laws.specs.Edge.{root_of}
 use Rattle.kind_laws.specs.Graph.{HasShape, StandsFor}
 use Rattle.kind_laws.proofs.GraphLaws.{stands_constant, stands_twice, stands_below, stands_parts}
 use Rattle.kind_laws.specs.declared.edge.Edge.{Edge}
-use Rattle.diagram.specs.View.{View, find_in, StandsAt, IsEdge, top_of, AreAllP}
+use Rattle.diagram.specs.View.{View, find_in, StandsAt, top_of, AreAllP}
 
 -- ---- letters
 pub allows_all : (ds : List Decomp) → are_allowed Hdd ds ≡ true

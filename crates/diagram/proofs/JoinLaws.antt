@@ -1,22 +1,22 @@
 -- What a join adds to the store, and what stays.
-use Rattle.std.proofs.Common.{◌≡◌, refl, sym, ◌∙◌, ap, subst, ℕ, zero, suc, ◌+◌, ◌-◌, ◌<◌, ◌≤◌, ℤ, pos, List, [], ◌∷◌, ◌++◌, Bool, true, false, length, drop, arith, inl, inr}
-use Rattle.std.specs.Prelude.{Some, None, ◌⊎◌, if◌then◌else◌}
+use Rattle.std.proofs.Common.{◌≡◌, refl, sym, ◌∙◌, ap, subst, ℕ, zero, suc, ◌+◌, ◌<◌, ◌≤◌, ℤ, pos, List, [], ◌∷◌, ◌++◌, Bool, true, false, length, drop, arith, inl, inr}
+use Rattle.std.specs.Prelude.{Some, ◌⊎◌}
 use Rattle.word_base.specs.declared.decomp.Decomp.{Decomp}
 use Rattle.word_base.specs.declared.decomp.Decomp.TheVariants.{P}
 use Rattle.word_base.specs.declared.kind_name.KindName.TheVariants.{Hdd}
 use Rattle.tables.specs.Table.{Table, entry, halves, merged, plus, constant_table, IsOver}
-use Rattle.tables.specs.Tree.{Weights, Shape, leaf, node, Tree, weights, constant, same, skips, node_join, tjoin}
+use Rattle.tables.specs.Tree.{Weights, leaf, Tree, weights, constant, same, skips, node_join, tjoin}
 use Rattle.tables.specs.Canonical.{canonical}
 use Rattle.tables.proofs.TableLaws.{both_halves}
 use Rattle.tables.proofs.TreeLaws.{same-same}
 use Rattle.std.proofs.lemmas.Int.{ints}
-use Rattle.kind_laws.specs.Body.{Fields, body_of, FitsBody}
+use Rattle.kind_laws.specs.Body.{body_of, FitsBody}
 use Rattle.kind_laws.specs.Edge.{root_of, IsZero, fields_of}
 use Rattle.kind_laws.specs.Graph.{HasShape, StandsFor, Extends, IsGoodStore}
 use Rattle.kind_laws.proofs.GraphLaws.{HasShape-extends, StandsFor-extends, same_table_of_edge, stands_join}
 use Rattle.kind_laws.specs.declared.edge.Edge.{Edge}
-use Rattle.diagram.specs.View.{View, find_in, StandsAt, IsEdge, top_of, Keeps, AreAllP, IsGood}
-use Rattle.diagram.proofs.EdgeLaws.{allows_all, letters_at, top_of-node, HasNode, node_of_edge, from_level, descend, ascend, constant_stands}
+use Rattle.diagram.specs.View.{View, find_in, StandsAt, IsEdge, top_of, Keeps, AreAllP}
+use Rattle.diagram.proofs.EdgeLaws.{allows_all, letters_at, top_of-node, node_of_edge, descend, ascend, constant_stands}
 use Rattle.diagram.proofs.StoreLaws.{still_found, was_found}
 
 -- ---- what is kept

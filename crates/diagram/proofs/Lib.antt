@@ -2,3 +2,4 @@ pub mod BuilderLaws
 pub mod EdgeLaws
 pub mod JoinLaws
 pub mod StoreLaws
+pub mod SumLaws

@@ -1,5 +1,5 @@
 -- What the calls of a builder answer.
-use Rattle.std.specs.Prelude.{◌≡◌, ℕ, ◌+◌, ◌<◌, ◌≤◌, ℤ, length}
+use Rattle.std.specs.Prelude.{ℕ, ◌+◌, ◌<◌, ◌≤◌, ℤ, length}
 use Rattle.word_base.specs.declared.decomp.Decomp.TheVariants.{P}
 use Rattle.tables.specs.Table.{Table, each, zip_with, part0, part1, merged}
 use Rattle.kind_laws.specs.declared.edge.Edge.{Edge}

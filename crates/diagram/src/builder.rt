@@ -47,9 +47,10 @@ impl Builder {
         Ok(Builder { bodies, levels })
     }
 
-    /// The number of levels.
+    /// The number of levels, which are all of positive Davio.
     pub fn levels(&self) -> u16
-        ensures { result ≡ length self.now.letters }
+        ensures count { result ≡ length self.now.letters }
+        ensures letters { AreAllP self.now.letters }
     {
         self.levels.len()
     }
@@ -67,9 +68,9 @@ impl Builder {
     }
 
     /// The level of an edge's node, and the number of levels for a constant.
-    pub fn top(&self, edge: Edge) -> u16
-        requires { IsEdge self.now edge }
-        ensures { result ≡ top_of self.now edge.node }
+    pub fn top(&self, edge: &Edge) -> u16
+        requires { IsEdge self.now edge.now }
+        ensures { result ≡ top_of self.now edge.now.node }
     {
         if edge.node == 0 {
             return self.levels.len();
@@ -78,18 +79,18 @@ impl Builder {
     }
 
     /// The low and the high part of an edge at a level.
-    pub fn parts(&self, edge: Edge, level: u16) -> (Edge, Edge)
-        requires { CanPart self.now level edge }
-        ensures { HasParts self.now level edge result.0 result.1 }
+    pub fn parts(&self, edge: &Edge, level: u16) -> (Edge, Edge)
+        requires { CanPart self.now level edge.now }
+        ensures { HasParts self.now level edge.now result.0 result.1 }
     {
         let bodies = self.bodies.as_slice();
         let zero = self.constant(Weight::ZERO);
         if edge.node == 0 {
-            return (edge, zero);
+            return (*edge, zero);
         }
         let body = body_at(bodies, edge.node);
         if level_of(body) != level {
-            return (edge, zero);
+            return (*edge, zero);
         }
         parts_of(body)
     }
@@ -117,8 +118,8 @@ impl Builder {
     }
 
     /// Whether two edges stand for one table. It compares the edges alone.
-    pub fn same(&self, a: Edge, b: Edge) -> bool
-        ensures { (l : ℕ) (t u : Table) → StandsAt self.now l t a → StandsAt self.now l u b → IsTrue result ↔ (t ≡ u) }
+    pub fn same(&self, a: &Edge, b: &Edge) -> bool
+        ensures { (l : ℕ) (t u : Table) → StandsAt self.now l t a.now → StandsAt self.now l u b.now → IsTrue result ↔ (t ≡ u) }
     {
         let _bodies = &self.bodies;
         a == b

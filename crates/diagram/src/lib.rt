@@ -3,5 +3,6 @@
 
 mod builder;
 mod store;
+mod sum;
 
 pub use builder::{Builder, Limit};

@@ -1,4 +1,4 @@
-use Rattle.std.proofs.Common.{◌≡◌, ◌<◌, ◌≤◌, ◌+◌, length, vec_len, inl, inr, arith, below_more, sym, ◌∙◌, ap}
+use Rattle.std.proofs.Common.{◌≡◌, ◌+◌, length, vec_len, inr, below_more, sym, ◌∙◌, ap}
 use Rattle.diagram.proofs.StoreLaws.{found_at, not_at, no_id, found_last}
 use Rattle.diagram.proofs.store.intern.Goals as goal
 

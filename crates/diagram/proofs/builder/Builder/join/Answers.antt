@@ -1,8 +1,5 @@
-use Rattle.std.proofs.Common.{ℕ, List, ◌≡◌, ◌∙◌, sym, ap, subst, vec_capacity, refl, pos, arith}
-use Rattle.std.specs.Prelude.{Some}
-use Rattle.kind_laws.specs.Body.{body_of}
-use Rattle.kind_laws.specs.Edge.{fields_of}
-use Rattle.diagram.specs.View.{View, find_in, IsGood, Keeps}
+use Rattle.std.proofs.Common.{ℕ, List, sym, subst, vec_capacity, refl, pos}
+use Rattle.diagram.specs.View.{View, IsGood, Keeps}
 use Rattle.diagram.specs.Results.{CanJoin, IsJoin}
 use Rattle.diagram.proofs.BuilderLaws.{skip_joins, node_joins, put_is_good}
 use Rattle.diagram.proofs.JoinLaws.{was_put, put_keeps}
@@ -35,7 +32,7 @@ returns-in-Ok-clause-keeps c =
     let new : View = record { known = c.intern.new.bodies.items; letters = c.self.inside.levels } in
     subst (λ (v : View). Keeps v new) c.self.view_is
     (put_keeps c.self.inside.bodies.items c.intern.new.bodies.items c.self.inside.levels _ c.in-Ok.node
-     (was_put c.self.inside.bodies.items c.intern.new.bodies.items c.in-Node.body c.in-Node.body c.in-Ok.node refl c.in-Ok.ensures.known c.in-Ok.ensures.added))
+    (was_put c.self.inside.bodies.items c.intern.new.bodies.items c.in-Node.body c.in-Node.body c.in-Ok.node refl c.in-Ok.ensures.known c.in-Ok.ensures.added))
 
 pub returns-in-Ok-clause-join : goal.returns-in-Ok-clause-join
 returns-in-Ok-clause-join c =
@@ -45,4 +42,4 @@ returns-in-Ok-clause-join c =
     let put = was_put c.self.inside.bodies.items c.intern.new.bodies.items c.in-Node.body _ c.in-Ok.node c.in-Node.ensures.1 c.in-Ok.ensures.known c.in-Ok.ensures.added in
     subst (λ (v : View). IsJoin v new c.args.level c.args.low c.args.high (record { weight = pos 0; node = c.in-Ok.node })) c.self.view_is
     (node_joins old new (vec_capacity c.self.inside.bodies) c.args.level c.args.low c.args.high c.in-Ok.node c.self.invariant can
-     (put_keeps c.self.inside.bodies.items c.intern.new.bodies.items c.self.inside.levels _ c.in-Ok.node put) c.in-Node.ensures.2 put.found c.in-Node.ensures.0)
+    (put_keeps c.self.inside.bodies.items c.intern.new.bodies.items c.self.inside.levels _ c.in-Ok.node put) c.in-Node.ensures.2 put.found c.in-Node.ensures.0)

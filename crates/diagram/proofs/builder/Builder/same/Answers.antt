@@ -21,6 +21,7 @@ edges_equal a b e =
 pub returns : goal.returns
 returns c = λ l t u h g.
     let good = subst (λ (v : View). IsGood v (vec_capacity c.self.inside.bodies)) c.self.view_is c.self.invariant in
-    let tells = same_tells c.args.self.now (vec_capacity c.self.inside.bodies) c.args.a c.args.b good l t u h g in
-    (λ yes. tells.0 (equal_edges c.args.a c.args.b (sym c.eq.ensures ∙ yes)),
-     λ e. c.eq.ensures ∙ edges_equal c.args.a c.args.b (tells.1 e))
+    let tells = same_tells c.args.self.now (vec_capacity c.self.inside.bodies) c.args.a.now c.args.b.now good l t u h g in (
+      λ yes. tells.0 (equal_edges c.args.a.now c.args.b.now (sym c.eq.ensures ∙ yes)),
+      λ e. c.eq.ensures ∙ edges_equal c.args.a.now c.args.b.now (tells.1 e),
+    )
