@@ -1,5 +1,5 @@
 -- What the recursions of entry-wise operations rest on.
-use Rattle.std.proofs.Common.{◌≡◌, refl, sym, ◌∙◌, ap, subst, ℕ, zero, suc, ◌+◌, ◌-◌, ◌<◌, ◌≤◌, ◌≢◌, ℤ, pos, ◌+ℤ◌, List, length, drop, min, arith, inl, inr}
+use Rattle.std.proofs.Common.{neg_ℤ, ◌-ℤ◌, ◌≡◌, refl, sym, ◌∙◌, ap, subst, ℕ, zero, suc, ◌+◌, ◌-◌, ◌<◌, ◌≤◌, ◌≢◌, ℤ, pos, ◌+ℤ◌, List, length, drop, min, arith, inl, inr}
 use Rattle.std.specs.Prelude.{Result, Ok, Err, IfOk, MatchResult}
 use Rattle.std.specs.Result.{OkIff}
 use Rattle.std.proofs.lemmas.Int.{ints}
@@ -8,7 +8,7 @@ use Rattle.word_base.specs.declared.decomp.Decomp.TheVariants.{P}
 use Rattle.word_base.specs.declared.kind_name.KindName.TheVariants.{Hdd}
 use Rattle.tables.specs.Table.{Table, entry, halves, IsOver, each, zip_with, plus, part0, part1, merged, constant_table}
 use Rattle.tables.specs.Tree.{Weights, weights}
-use Rattle.tables.proofs.TableLaws.{both_halves, each-constant_table, each-merged, merged-parts, IsOver-part0, IsOver-part1}
+use Rattle.tables.proofs.TableLaws.{both_halves, each-same, each-constant_table, each-merged, merged-parts, IsOver-part0, IsOver-part1}
 use Rattle.kind_laws.specs.Edge.{root_of}
 use Rattle.kind_laws.specs.Graph.{StandsFor}
 use Rattle.kind_laws.specs.declared.edge.Edge.{Edge}
@@ -16,8 +16,8 @@ use Rattle.kind_laws.proofs.GraphLaws.{constant_of_leaf}
 use Rattle.diagram.specs.declared.builder.Limit.{Limit}
 use Rattle.diagram.specs.declared.builder.Limit.TheVariants as limit
 use Rattle.diagram.specs.View.{View, find_in, StandsAt, IsEdge, top_of, Keeps, AreAllP}
-use Rattle.diagram.specs.Results.{CanPart, HasParts, CanJoin, IsJoin, IsOfBoth, IsOfEach}
-use Rattle.diagram.proofs.EdgeLaws.{allows_all, letters_at, top_of-node, node_of_edge, from_level, constant_stands, binary_at, unary_at}
+use Rattle.diagram.specs.Results.{CanPart, HasParts, CanJoin, IsJoin, IsOfBoth, IsOfEach, lifted, variable_table}
+use Rattle.diagram.proofs.EdgeLaws.{allows_all, letters_at, top_of-node, node_of_edge, from_level, ascend, constant_stands, binary_at, unary_at}
 use Rattle.diagram.proofs.JoinLaws.{stays, still_edge, same_top, stands_somewhere}
 use Rattle.diagram.proofs.BuilderLaws.{constant_good}
 
@@ -123,17 +123,17 @@ pub over_at : (v : View) (l : ℕ) (t : Table) (e : Edge) → AreAllP v.letters 
 over_at v l t e all within h =
     subst (λ (ds : List Decomp). IsOver (length ds) t) (letters_at v.letters l all within) h.over
 
-part_over0 : (v : View) (l : ℕ) (t : Table) (e : Edge) → AreAllP v.letters → l < length v.letters → StandsAt v l t e → IsOver (length (drop (l + 1) v.letters)) (part0 P t)
+pub part_over0 : (v : View) (l : ℕ) (t : Table) (e : Edge) → AreAllP v.letters → l < length v.letters → StandsAt v l t e → IsOver (length (drop (l + 1) v.letters)) (part0 P t)
 part_over0 v l t e all within h = IsOver-part0 _ P t (over_at v l t e all within h)
 
-part_over1 : (v : View) (l : ℕ) (t : Table) (e : Edge) → AreAllP v.letters → l < length v.letters → StandsAt v l t e → IsOver (length (drop (l + 1) v.letters)) (part1 P t)
+pub part_over1 : (v : View) (l : ℕ) (t : Table) (e : Edge) → AreAllP v.letters → l < length v.letters → StandsAt v l t e → IsOver (length (drop (l + 1) v.letters)) (part1 P t)
 part_over1 v l t e all within h = IsOver-part1 _ P t (over_at v l t e all within h)
 
-whole : (v : View) (l : ℕ) (t : Table) (e : Edge) → AreAllP v.letters → l < length v.letters → StandsAt v l t e → merged P (part0 P t) (part1 P t) ≡ t
+pub whole : (v : View) (l : ℕ) (t : Table) (e : Edge) → AreAllP v.letters → l < length v.letters → StandsAt v l t e → merged P (part0 P t) (part1 P t) ≡ t
 whole v l t e all within h = merged-parts _ P t (over_at v l t e all within h)
 
 -- an edge that stands from the next level on lies below the level
-lies_below : (v : View) (l : ℕ) (t : Table) (e : Edge) → l < length v.letters → StandsAt v (l + 1) t e → l < top_of v e.node
+pub lies_below : (v : View) (l : ℕ) (t : Table) (e : Edge) → l < length v.letters → StandsAt v (l + 1) t e → l < top_of v e.node
 lies_below v l t e within h =
     let deeper : l + 1 ≤ length v.letters = omega arith in
     let from = from_level v (l + 1) t e h deeper in omega arith
@@ -313,3 +313,52 @@ falls_both_after v w a b t keeps h g less =
     let same : length w.letters ≡ length v.letters = ap length keeps.letters in
     let top_a = same_top v w a keeps h in
     let top_b = same_top v w b keeps g in omega arith
+
+-- ---- operations that are one
+pub of_each_same : (op other : ℤ → ℤ) → ((x : ℤ) → op x ≡ other x) → (v w : View) (a e : Edge) → IsOfEach op v w a e → IsOfEach other v w a e
+of_each_same op other same v w a e h = record {
+  table = λ l t within s. subst (λ (x : Table). StandsAt w l x e) (each-same op other same t) (h.table l t within s);
+  good = h.good;
+}
+
+plus-opposite : (n : ℕ) (t u : Table) → IsOver n t → IsOver n u → zip_with (λ x y. x +ℤ y) t (each neg_ℤ u) ≡ zip_with (λ x y. x -ℤ y) t u
+plus-opposite zero (entry x) (entry y) o p = refl
+plus-opposite zero (halves a b) u o p = absurd o
+plus-opposite zero (entry x) (halves c d) o p = absurd p
+plus-opposite (suc n) (entry x) u o p = absurd o
+plus-opposite (suc n) (halves a b) (entry y) o p = absurd p
+plus-opposite (suc n) (halves a b) (halves c d) o p = both_halves (plus-opposite n a c o.0 p.0) (plus-opposite n b d o.1 p.1)
+
+-- the sum with the negative is the difference
+pub difference_of_sum : (u v w : View) (a b n e : Edge) → Keeps u v → IsOfEach neg_ℤ u v b n → IsOfBoth (λ x y. x +ℤ y) v w a n e → IsOfBoth (λ x y. x -ℤ y) u w a b e
+difference_of_sum u v w a b n e keeps negative sum = record {
+  table = λ l t s within h g.
+      let also : l ≤ length v.letters = rw keeps.letters within in
+      subst (λ (x : Table). StandsAt w l x e) (plus-opposite (length (drop l u.letters)) t s h.over g.over) (sum.table l t (each neg_ℤ s) also (stays u v l t a keeps h) (negative.table l s within g));
+  good = sum.good;
+}
+
+-- ---- variables
+zero-plus : (n : ℕ) (c : ℤ) → plus (constant_table n (pos 0)) (constant_table n c) ≡ constant_table n c
+zero-plus zero c = ap entry (omega (arith, ints))
+zero-plus (suc n) c = both_halves (zero-plus n c) (zero-plus n c)
+
+lift_up : (w : View) (e : Edge) (t : Table) (k l m : ℕ) → l + k ≡ m → AreAllP w.letters → m ≤ length w.letters → StandsAt w m t e → StandsAt w l (lifted k t) e
+lift_up w e t zero l m sum all within h =
+    let same : m ≡ l = omega arith in subst (λ (x : ℕ). StandsAt w x t e) same h
+lift_up w e t (suc k) l m sum all within h =
+    let rest : l + 1 + k ≡ m = omega arith in
+    let less : l < length w.letters = omega arith in
+    ascend w l (lifted k t) e all less (lift_up w e t k (l + 1) m rest all within h)
+
+pub variable_stands : (v w : View) (level : ℕ) (e : Edge) → AreAllP v.letters → level < length v.letters → Keeps v w →
+    IsJoin v w level (record { weight = pos 0; node = 0 }) (record { weight = pos 1; node = 0 }) e → StandsAt w 0 (variable_table v level) e
+variable_stands v w level e all within keeps j =
+    let n = length (drop (level + 1) v.letters) in
+    let joined = j.table (constant_table n (pos 0)) (constant_table n (pos 1)) (constant_stands v (level + 1) (pos 0)) (constant_stands v (level + 1) (pos 1)) in
+    let here : StandsAt w level (halves (constant_table n (pos 0)) (constant_table n (pos 1))) e =
+    subst (λ (x : Table). StandsAt w level (halves (constant_table n (pos 0)) x) e) (zero-plus n (pos 1)) joined in
+    let all_w = subst AreAllP (sym keeps.letters) all in
+    let within_w : level ≤ length w.letters = let same : length w.letters ≡ length v.letters = ap length keeps.letters in omega arith in
+    let sum : 0 + level ≡ level = omega arith in
+    lift_up w e _ level 0 level sum all_w within_w here

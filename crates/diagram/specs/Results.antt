@@ -1,7 +1,7 @@
 -- What the calls of a builder answer.
-use Rattle.std.specs.Prelude.{ℕ, ◌+◌, ◌<◌, ◌≤◌, ℤ, length}
+use Rattle.std.specs.Prelude.{◌≡◌, ℕ, zero, suc, ◌+◌, ◌<◌, ◌≤◌, ℤ, pos, Bool, true, List, [], ◌∷◌, length, drop, refl}
 use Rattle.word_base.specs.declared.decomp.Decomp.TheVariants.{P}
-use Rattle.tables.specs.Table.{Table, each, zip_with, part0, part1, merged}
+use Rattle.tables.specs.Table.{Table, halves, each, zip_with, part0, part1, merged, constant_table, tabulate}
 use Rattle.kind_laws.specs.declared.edge.Edge.{Edge}
 use Rattle.diagram.specs.View.{View, StandsAt, IsEdge, top_of}
 
@@ -42,3 +42,22 @@ pub record IsOfBoth (op : ℤ → ℤ → ℤ) (old new : View) (a b e : Edge) :
 pub record IsOfEach (op : ℤ → ℤ) (old new : View) (a e : Edge) : Type 0 where
   pub table : (l : ℕ) (t : Table) → l ≤ length old.letters → StandsAt old l t a → StandsAt new l (each op t) e
   pub good : IsEdge new e
+
+-- a table under levels that do not split it
+abbrev pub lifted : ℕ → Table → Table
+lifted zero t = t
+lifted (suc n) t = halves (lifted n t) (lifted n t)
+
+-- the table of a level's variable, over all levels
+abbrev pub variable_table : View → ℕ → Table
+variable_table v level =
+    let below = length (drop (level + 1) v.letters) in
+    lifted level (halves (constant_table below (pos 0)) (constant_table below (pos 1)))
+
+abbrev second_bit : List Bool → ℤ
+second_bit (a ∷ true ∷ bits) = pos 1
+second_bit bits = pos 0
+
+-- the variable of the second of three levels
+second : variable_table (record { known = []; letters = P ∷ P ∷ P ∷ [] }) 1 ≡ tabulate 3 second_bit
+second = refl

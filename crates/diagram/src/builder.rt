@@ -1,5 +1,5 @@
-ghost use Rattle.std.specs.Prelude.{◌≡◌, ℕ, ◌↔◌, [], length, drop, IfOk, IsTrue};
-ghost use Rattle.diagram.specs.Results.{CanPart, HasParts, CanJoin, IsJoin};
+ghost use Rattle.std.specs.Prelude.{◌≡◌, ℕ, ◌<◌, ◌↔◌, [], length, drop, IfOk, IsTrue};
+ghost use Rattle.diagram.specs.Results.{CanPart, HasParts, CanJoin, IsJoin, variable_table};
 ghost use Rattle.diagram.specs.View.{View, AreAllP, StandsAt, IsEdge, Keeps, top_of};
 ghost use Rattle.tables.specs.Table.{Table, constant_table};
 
@@ -115,6 +115,18 @@ impl Builder {
                 Ok(Edge { weight, node })
             }
         }
+    }
+
+    /// The edge of a level's variable.
+    pub fn var(&mut self, level: u16) -> Result<Edge, Limit>
+        requires { level < length self.old.letters }
+        ensures keeps { Keeps self.old self.new }
+        ensures table { IfOk result (λ e. StandsAt self.new 0 (variable_table self.old level) e) }
+    {
+        let _bodies = &self.bodies;
+        let zero = self.constant(Weight::ZERO);
+        let one = self.constant(Weight::ONE);
+        self.join(level, zero, one)
     }
 
     /// Whether two edges stand for one table. It compares the edges alone.

@@ -2,6 +2,7 @@
 #![tactic(auto)]
 
 mod builder;
+mod product;
 mod store;
 mod sum;
 

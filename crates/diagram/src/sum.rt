@@ -8,7 +8,7 @@ use word_base::{Overflow, Weight};
 
 impl Builder {
     /// The edge of a constant, where the sum or product that makes it is a weight.
-    fn constant_of(&self, value: Result<Weight, Overflow>) -> Result<Edge, Limit>
+    pub(crate) fn constant_of(&self, value: Result<Weight, Overflow>) -> Result<Edge, Limit>
         ensures { MatchResult value (λ w. IfOk result (λ e. e ≡ record { weight = w; node = 0 })) (λ _. result ≡ Err Limit.Overflow) }
     {
         match value {
@@ -33,6 +33,15 @@ impl Builder {
         self.join(level, low, high)
     }
 
+    /// The negative, entry by entry.
+    pub fn neg(&mut self, a: &Edge) -> Result<Edge, Limit>
+        requires { IsEdge self.old a.now }
+        ensures keeps { Keeps self.old self.new }
+        ensures negative { IfOk result (λ e. IsOfEach neg_ℤ self.old self.new a.now e) }
+    {
+        self.scale(Weight::ONE.neg(), a)
+    }
+
     /// The sum, entry by entry.
     pub fn add(&mut self, a: &Edge, b: &Edge) -> Result<Edge, Limit>
         requires a_good { IsEdge self.old a.now }
@@ -49,5 +58,16 @@ impl Builder {
         let low = self.add(&a_low, &b_low)?;
         let high = self.add(&a_high, &b_high)?;
         self.join(level, low, high)
+    }
+
+    /// The difference, entry by entry.
+    pub fn sub(&mut self, a: &Edge, b: &Edge) -> Result<Edge, Limit>
+        requires a_good { IsEdge self.old a.now }
+        requires b_good { IsEdge self.old b.now }
+        ensures keeps { Keeps self.old self.new }
+        ensures difference { IfOk result (λ e. IsOfBoth (λ x y. x -ℤ y) self.old self.new a.now b.now e) }
+    {
+        let negative = self.neg(b)?;
+        self.add(a, &negative)
     }
 }
