@@ -1,0 +1,6 @@
+//! Gates, words and expressions over a builder of diagrams.
+#![tactic(auto)]
+
+mod gates;
+
+pub use gates::{and, not, or, xor};
