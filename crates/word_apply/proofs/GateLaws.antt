@@ -1,5 +1,5 @@
 -- Operations entry by entry that are made of others.
-use Rattle.std.proofs.Common.{◌≡◌, refl, sym, ◌∙◌, ap, subst, ℕ, zero, suc, ◌≤◌, ℤ, pos, ◌-ℤ◌, List, length, drop, arith}
+use Rattle.std.proofs.Common.{◌≡◌, refl, sym, subst, ℕ, zero, suc, ◌≤◌, ℤ, pos, ◌-ℤ◌, length, drop}
 use Rattle.netlist.specs.Polynomial.{negation}
 use Rattle.tables.specs.Table.{Table, entry, halves, IsOver, each, zip_with, constant_table}
 use Rattle.tables.proofs.TableLaws.{both_halves}
@@ -38,9 +38,9 @@ constant_minus (suc n) c (halves a b) o = both_halves (constant_minus n c a o.0)
 pub negation_of : (v w : View) (one a e : Edge) → one ≡ record { weight = pos 1; node = 0 } → IsOfBoth (λ x y. x -ℤ y) v w one a e → IsOfEach negation v w a e
 negation_of v w one a e is h = record {
   table = λ l t within s.
-    let n = length (drop l v.letters) in
-    let stands : StandsAt v l (constant_table n (pos 1)) one = subst (λ (x : Edge). StandsAt v l (constant_table n (pos 1)) x) (sym is) (constant_stands v l (pos 1)) in
-    subst (λ (x : Table). StandsAt w l x e) (constant_minus n (pos 1) t s.over) (h.table l (constant_table n (pos 1)) t within stands s);
+      let n = length (drop l v.letters) in
+      let stands : StandsAt v l (constant_table n (pos 1)) one = subst (λ (x : Edge). StandsAt v l (constant_table n (pos 1)) x) (sym is) (constant_stands v l (pos 1)) in
+      subst (λ (x : Table). StandsAt w l x e) (constant_minus n (pos 1) t s.over) (h.table l (constant_table n (pos 1)) t within stands s);
   good = h.good;
 }
 
@@ -49,8 +49,8 @@ pub each_after : (f : ℤ → ℤ) (g : ℤ → ℤ → ℤ) (v w x : View) (a b
     IsOfBoth (λ y z. f (g y z)) v x a b q
 each_after f g v w x a b p q keeps h e = record {
   table = λ l t u within s r.
-    let also : l ≤ length w.letters = rw keeps.letters within in
-    subst (λ (y : Table). StandsAt x l y q) (each_zip f g (length (drop l v.letters)) t u s.over r.over) (e.table l (zip_with g t u) also (h.table l t u within s r));
+      let also : l ≤ length w.letters = rw keeps.letters within in
+      subst (λ (y : Table). StandsAt x l y q) (each_zip f g (length (drop l v.letters)) t u s.over r.over) (e.table l (zip_with g t u) also (h.table l t u within s r));
   good = e.good;
 }
 
@@ -59,8 +59,8 @@ pub combined : (f g h : ℤ → ℤ → ℤ) (v w x : View) (a b p q e : Edge) �
     IsOfBoth (λ y z. f (g y z) (h y z)) v x a b e
 combined f g h v w x a b p q e keeps i j k = record {
   table = λ l t u within s r.
-    let also : l ≤ length w.letters = rw keeps.letters within in
-    subst (λ (y : Table). StandsAt x l y e) (zip_both f g h (length (drop l v.letters)) t u s.over r.over)
-    (k.table l (zip_with g t u) (zip_with h t u) also (i.table l t u within s r) (j.table l t u within s r));
+      let also : l ≤ length w.letters = rw keeps.letters within in
+      subst (λ (y : Table). StandsAt x l y e) (zip_both f g h (length (drop l v.letters)) t u s.over r.over)
+      (k.table l (zip_with g t u) (zip_with h t u) also (i.table l t u within s r) (j.table l t u within s r));
   good = k.good;
 }

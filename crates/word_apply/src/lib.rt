@@ -1,6 +1,8 @@
 //! Gates, words and expressions over a builder of diagrams.
 #![tactic(auto)]
 
+mod fold;
 mod gates;
 
+pub use fold::gate;
 pub use gates::{and, not, or, xor};

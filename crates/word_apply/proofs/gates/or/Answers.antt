@@ -29,6 +29,6 @@ returns-clause-disjunction c =
     let product = moved (λ x y. x *ℤ y) v v v1 v2 a b c.in_ok-product.product (keeps_itself v) c.in_ok-product.ensures.product second in
     if_ok_map c.sub.result (IsOfBoth (λ x y. x -ℤ y) v2 c.sub.new.self c.in_ok-sum.sum c.in_ok-product.product) _
     (λ e h.
-       combined (λ x y. x -ℤ y) (λ x y. x +ℤ y) (λ x y. x *ℤ y) v v2 c.sub.new.self a b c.in_ok-sum.sum c.in_ok-product.product e
-        (keeps_on v v1 v2 first second) sum product h)
+    combined (λ x y. x -ℤ y) (λ x y. x +ℤ y) (λ x y. x *ℤ y) v v2 c.sub.new.self a b c.in_ok-sum.sum c.in_ok-product.product e
+    (keeps_on v v1 v2 first second) sum product h)
     c.sub.ensures.difference

@@ -34,11 +34,11 @@ returns-clause-exclusive_or c =
     let before = keeps_on v v1 v2 first second in
     let sum = moved (λ x y. x +ℤ y) v v2 v3 v3 a b c.in_ok-sum.sum before c.in_ok-sum.ensures.sum (keeps_itself v3) in
     let made =
-            each_after (λ x. pos 2 *ℤ x) (λ x y. x *ℤ y) v v1 v2 a b c.in_ok-product.product c.in_ok-twice.twice
-            first c.in_ok-product.ensures.product c.in_ok-twice.ensures.multiple in
+    each_after (λ x. pos 2 *ℤ x) (λ x y. x *ℤ y) v v1 v2 a b c.in_ok-product.product c.in_ok-twice.twice
+    first c.in_ok-product.ensures.product c.in_ok-twice.ensures.multiple in
     let twice = moved (λ x y. pos 2 *ℤ (x *ℤ y)) v v v2 v3 a b c.in_ok-twice.twice (keeps_itself v) made third in
     if_ok_map c.sub.result (IsOfBoth (λ x y. x -ℤ y) v3 c.sub.new.self c.in_ok-sum.sum c.in_ok-twice.twice) _
     (λ e h.
-       combined (λ x y. x -ℤ y) (λ x y. x +ℤ y) (λ x y. pos 2 *ℤ (x *ℤ y)) v v3 c.sub.new.self a b c.in_ok-sum.sum c.in_ok-twice.twice e
-        (keeps_on v v2 v3 before third) sum twice h)
+    combined (λ x y. x -ℤ y) (λ x y. x +ℤ y) (λ x y. pos 2 *ℤ (x *ℤ y)) v v3 c.sub.new.self a b c.in_ok-sum.sum c.in_ok-twice.twice e
+    (keeps_on v v2 v3 before third) sum twice h)
     c.sub.ensures.difference
