@@ -5,11 +5,13 @@ use Rattle.netlist.specs.Circuits.{gate, half, c17}
 use Rattle.netlist.specs.declared.gate_word.GateWord.TheVariants.{And, Nor, Or, Not}
 use Rattle.spec_lang.specs.Formula.{number, word, sum, difference, product}
 use Rattle.spec_lang.specs.Specification.{Check, Specification, single, half_adder, half_adder_check}
+use Rattle.tables.specs.Table.{entry, halves}
 use Rattle.word_base.specs.declared.decomp.Decomp.{Decomp}
 use Rattle.word_base.specs.declared.decomp.Decomp.TheVariants.{N, P, S}
 use Rattle.word_base.specs.declared.kind_name.KindName.TheVariants.{Evbdd, StarBmd, Hdd, KStarBmd}
 use Rattle.checks.specs.declared.method.Method.TheVariants.{Forward, Backward}
-use Rattle.checks.specs.Answer.{answer, equal, different}
+use Rattle.checks.specs.Answer.{IsFirstDifference, answer, equal, different}
+use Rattle.checks.proofs.FirstDifference.{first_difference_found}
 use Rattle.checks.specs.Backward.{backward_letters, backward_nets, backward_work}
 use Rattle.checks.specs.Forward.{forward_work}
 use Rattle.checks.specs.Limits.{need, over, short}
@@ -165,3 +167,8 @@ too_great = record { left = sum (number (pos 17014118346046923173168730371588410
 
 too_great-over : over KStarBmd Backward pair (of_pair (0 ∷ 1 ∷ []) too_great) too_great ≡ true
 too_great-over = refl
+
+-- ---- the second entries are the first that differ
+second_is_first : IsFirstDifference 1 (halves (entry (pos 1)) (entry (pos 2))) (halves (entry (pos 1)) (entry (negsuc 0)))
+    (record { at = true ∷ []; left = pos 2; right = negsuc 0 })
+second_is_first = first_difference_found.found 1 _ _ _ (tt, tt) (tt, tt) refl

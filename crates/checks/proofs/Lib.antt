@@ -1,2 +1,8 @@
 pub mod Examples
+pub mod FirstDifference
+pub mod FormulaTables
+pub mod GateTables
+pub mod InputTables
+pub mod Tabulated
 pub mod Vectors
+pub mod WordTables

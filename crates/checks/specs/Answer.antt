@@ -1,5 +1,5 @@
 -- What is answered to a check.
-use Rattle.std.specs.Prelude.{◌≡◌, ℕ, ℤ, pos, negsuc, Bool, true, false, List, [], ◌∷◌, Option, Some, None, if◌then◌else◌, refl}
+use Rattle.std.specs.Prelude.{◌≡◌, ℕ, ℤ, pos, negsuc, Bool, true, false, List, [], ◌∷◌, length, Option, Some, None, if◌then◌else◌, refl}
 use Rattle.std.specs.Option.{option_map_or}
 use Rattle.std.specs.Ordering.{int_eq}
 use Rattle.netlist.specs.Circuit.{Circuit}
@@ -33,6 +33,30 @@ first_difference (halves a b) (halves c d) = first_of_halves (first_difference a
 first_difference (entry x) (halves c d) = None
 first_difference (halves a b) (entry y) = None
 
+-- the entry at the bits, the top level's first
+abbrev pub entry_at : Table → List Bool → ℤ
+entry_at (entry x) bits = x
+entry_at (halves lo hi) [] = pos 0
+entry_at (halves lo hi) (false ∷ bits) = entry_at lo bits
+entry_at (halves lo hi) (true ∷ bits) = entry_at hi bits
+
+-- of two lists of as many bits: the entry at the first stands before the entry at the second
+abbrev pub IsBefore : List Bool → List Bool → Type 0
+IsBefore [] bits = ⊥
+IsBefore (bit ∷ bits) [] = ⊥
+IsBefore (false ∷ bits) (false ∷ others) = IsBefore bits others
+IsBefore (false ∷ bits) (true ∷ others) = Unit {0}
+IsBefore (true ∷ bits) (false ∷ others) = ⊥
+IsBefore (true ∷ bits) (true ∷ others) = IsBefore bits others
+
+-- over n levels: both entries at the bits, which differ, and all entries before them are the same
+pub record IsFirstDifference (n : ℕ) (t u : Table) (d : Difference) : Type 0 where
+  pub full : length d.at ≡ n
+  pub left : entry_at t d.at ≡ d.left
+  pub right : entry_at u d.at ≡ d.right
+  pub differ : d.left ≡ d.right → ⊥
+  pub same_before : (bits : List Bool) → length bits ≡ n → IsBefore bits d.at → entry_at t bits ≡ entry_at u bits
+
 -- what a line of the report says: the sides are equal, with the nodes of their canonical diagram; they differ, with
 -- both values and the bits of the inputs from the top level down; or a limit was met
 pub data Verdict : Type 0 where
@@ -51,6 +75,12 @@ answer k c s check =
 second_entry : first_difference (halves (entry (pos 1)) (entry (pos 2))) (halves (entry (pos 1)) (entry (negsuc 0)))
     ≡ Some (record { at = true ∷ []; left = pos 2; right = negsuc 0 })
 second_entry = refl
+
+third_entry : entry_at (halves (halves (entry (pos 3)) (entry (pos 1))) (halves (entry (pos 4)) (entry (pos 6)))) (true ∷ false ∷ []) ≡ pos 4
+third_entry = refl
+
+second_before_third : IsBefore (false ∷ true ∷ []) (true ∷ false ∷ []) ≡ Unit {0}
+second_before_third = refl
 
 half-answer : answer StarBmd half half_adder half_adder_check ≡ equal 2
 half-answer = refl

@@ -2,6 +2,7 @@ pub mod Answer
 pub mod Backward
 pub mod FormulaWork
 pub mod Forward
+pub mod Laws
 pub mod Limits
 pub mod Report
 pub mod Sides

@@ -1,9 +1,9 @@
 -- The tables that the operations on diagrams go through. They serve to say when an operation may meet a limit.
-use Rattle.std.specs.Prelude.{ℕ, ◌+◌, ◌*◌, ℤ, pos, List, [], ◌∷◌, ◌++◌, map, if◌then◌else◌}
+use Rattle.std.specs.Prelude.{◌≡◌, ℕ, ◌+◌, ◌*◌, ℤ, pos, Bool, true, false, List, [], ◌∷◌, ◌++◌, map, fold, if◌then◌else◌, refl}
 use Rattle.netlist.specs.Polynomial.{step, is_negated}
 use Rattle.netlist.specs.declared.gate_word.GateWord.{GateWord}
 use Rattle.netlist.specs.declared.gate_word.GateWord.TheVariants.{And, Nand, Or, Nor, Xor, Xnor, Not, Buff}
-use Rattle.tables.specs.Table.{Table, entry, each, zip_with, plus, minus, times, opposite, multiple, part0, part1, same_table}
+use Rattle.tables.specs.Table.{Table, entry, halves, each, zip_with, plus, minus, times, opposite, multiple, part0, part1, same_table}
 use Rattle.word_base.specs.declared.decomp.Decomp.{Decomp}
 use Rattle.word_base.specs.declared.decomp.Decomp.TheVariants.{S, P, N}
 
@@ -113,6 +113,15 @@ abbrev pub partial_sums : List Table → List Table
 partial_sums [] = []
 partial_sums (t ∷ ts) = t ∷ sums_from t ts
 
+-- the sum of tables, of which there is one at least
+abbrev pub sum_table : List Table → Table
+sum_table [] = entry (pos 0)
+sum_table (t ∷ ts) = fold plus t ts
+
+-- the table of a word, from those of its nets: the sum of 2^i times the i-th
+abbrev pub word_table : List Table → Table
+word_table bits = sum_table (multiples 1 bits)
+
 -- the bits, each multiple by its power of two, and each sum of the lowest multiples
 abbrev pub word_work : ℕ → List Table → List Piece
 word_work l bits = pieces l (bits ++ multiples 1 bits ++ partial_sums (multiples 1 bits))
@@ -141,3 +150,29 @@ walk (N ∷ ds) l a b =
     ++ (if same_table (sum_of_parts N a) (sum_of_parts N b)
     then walk ds (l + 1) (part0 N a) (part0 N b)
     else walk ds (l + 1) (sum_of_parts N a) (sum_of_parts N b))
+
+-- the bits by which this walk goes
+abbrev pub walk_bits : List Decomp → Table → Table → List Bool
+walk_bits [] a b = []
+walk_bits (S ∷ ds) a b =
+    if same_table (part0 S a) (part0 S b)
+    then true ∷ walk_bits ds (part1 S a) (part1 S b)
+    else false ∷ walk_bits ds (part0 S a) (part0 S b)
+walk_bits (P ∷ ds) a b =
+    if same_table (part0 P a) (part0 P b)
+    then true ∷ walk_bits ds (part1 P a) (part1 P b)
+    else false ∷ walk_bits ds (part0 P a) (part0 P b)
+walk_bits (N ∷ ds) a b =
+    if same_table (sum_of_parts N a) (sum_of_parts N b)
+    then true ∷ walk_bits ds (part0 N a) (part0 N b)
+    else false ∷ walk_bits ds (sum_of_parts N a) (sum_of_parts N b)
+
+abbrev with_last : ℤ → Table
+with_last z = halves (halves (entry (pos 3)) (entry (pos 1))) (halves (entry (pos 4)) (entry z))
+
+walk_to_last : walk_bits (P ∷ N ∷ []) (with_last (pos 6)) (with_last (pos 5)) ≡ true ∷ true ∷ []
+walk_to_last = refl
+
+-- the three bits 0, 1 and 1 make 6
+word_of_three : word_table (entry (pos 0) ∷ entry (pos 1) ∷ entry (pos 1) ∷ []) ≡ entry (pos 6)
+word_of_three = refl

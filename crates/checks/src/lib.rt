@@ -2,12 +2,17 @@
 //!
 //! The definitions stand in `specs/`: the two sides of a check as tables (`Sides`), its answer (`Answer`), the
 //! tables that the operations on diagrams go through (`Work`), those of a check by either method (`Forward`,
-//! `Backward`), when a check is over the range of weights or short of cells (`Limits`), and the bytes of the
-//! report (`Report`).
+//! `Backward`), when a check is over the range of weights or short of cells (`Limits`), the bytes of the report
+//! (`Report`), and the laws of all these (`Laws`), each the contract of a function of `laws`.
 #![tactic(auto)]
 
+mod laws;
 mod method;
 mod status;
 
+pub use laws::{
+    first_difference_found, formula_tables, gate_tables, input_tables, sides_are_over,
+    walk_finds_first, word_tables,
+};
 pub use method::Method;
 pub use status::Status;

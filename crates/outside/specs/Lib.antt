@@ -1,0 +1,7 @@
+pub mod Count
+pub mod MemoryShelf
+pub mod MemorySink
+pub mod Shelf
+pub mod ShelfInside
+pub mod Sink
+pub mod Text
