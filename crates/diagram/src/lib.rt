@@ -5,5 +5,7 @@ mod builder;
 mod product;
 mod store;
 mod sum;
+#[cfg(test)]
+mod tests;
 
 pub use builder::{Builder, Limit};

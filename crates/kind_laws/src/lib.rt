@@ -9,6 +9,8 @@
 
 mod body;
 mod edge;
+#[cfg(test)]
+mod tests;
 
 pub use body::{children, level_of, low_and_high_weight, pack_body};
 pub use edge::{Edge, Joined, join, parts_of};
