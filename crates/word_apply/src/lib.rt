@@ -3,6 +3,8 @@
 
 mod fold;
 mod gates;
+#[cfg(test)]
+mod tests;
 
 pub use fold::gate;
 pub use gates::{and, not, or, xor};

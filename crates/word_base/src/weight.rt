@@ -44,6 +44,7 @@ impl Weight {
     pub const ZERO: Weight = Weight { value: 0 };
 
     pub const ONE: Weight = Weight { value: 1 };
+
     pub const TWO: Weight = Weight { value: 2 };
     /// `2^127-1`, the greatest weight; the least is its negative.
     pub const MAX: Weight = Weight { value: i128::MAX };
