@@ -1,5 +1,6 @@
 -- The formula of each variant of an expression.
-use Rattle.std.proofs.Common.{◌≡◌, ℕ, ℤ, refl}
+use Rattle.std.proofs.Common.{◌≡◌, ◌⊎◌, ◌++◌, ◌∙◌, ⊎_elim, ap, ℕ, ℤ, refl}
+use Rattle.spec_lang.specs.Named.{namings}
 use Rattle.spec_lang.specs.declared.expr.Expr.{Expr}
 use Rattle.spec_lang.specs.declared.expr.Expr.TheVariants as e
 use Rattle.spec_lang.specs.declared.expr.Expr.TheBlock.{hidden-the_row-Expr-0}
@@ -39,3 +40,11 @@ formula_goes_by_cases = record {
   of_sub = formula_of-Sub;
   of_mul = formula_of-Mul;
 }
+
+-- the words that an operation on two operands names
+pub namings_of_two : (x a b : Expr) → (x ≡ e.Add a b) ⊎ ((x ≡ e.Sub a b) ⊎ (x ≡ e.Mul a b)) → namings (formula_of x) ≡ namings (formula_of a) ++ namings (formula_of b)
+namings_of_two x a b = ⊎_elim
+    (λ is. ap (λ x. namings (formula_of x)) is ∙ ap namings (formula_of-Add a b))
+    (⊎_elim
+    (λ is. ap (λ x. namings (formula_of x)) is ∙ ap namings (formula_of-Sub a b))
+    (λ is. ap (λ x. namings (formula_of x)) is ∙ ap namings (formula_of-Mul a b)))

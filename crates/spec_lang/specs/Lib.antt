@@ -1,4 +1,6 @@
 pub mod Formula
 pub mod Named
 pub mod Specification
+pub mod Stored
 pub mod Value
+pub mod WellFormed

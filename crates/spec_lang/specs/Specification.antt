@@ -21,9 +21,15 @@ pub record Specification : Type 0 where
   pub words : List Word
   pub checks : List Check
 
+abbrev pub named_word : List ℕ → List ℕ → Word
+named_word name nets = record { name = name; nets = nets }
+
+abbrev pub specification : List ℕ → List Decomp → List Word → List Check → Specification
+specification order letters words checks = record { order = order; letters = letters; words = words; checks = checks }
+
 -- a word of one net
 abbrev pub single : List ℕ → ℕ → Word
-single name net = record { name = name; nets = net ∷ [] }
+single name net = named_word name (net ∷ [])
 
 -- s + 2*c == a + b, where the words a, b, s, c have the numbers 0 to 3
 abbrev pub half_adder_check : Check

@@ -1,4 +1,8 @@
+ghost use Rattle.std.specs.Prelude.{◌≡◌, IfOk};
+ghost use Rattle.spec_lang.specs.Formula.{formula_of, negative, sum, difference, product};
+
 use sqlite_items::Boxed;
+use std::alloc::{AllocError, Global};
 use word_base::Weight;
 
 /// An expression over the words of a specification, in integer arithmetic.
@@ -16,4 +20,30 @@ pub enum Expr {
     Sub(Boxed<Expr>, Boxed<Expr>),
     /// The first and the second factor.
     Mul(Boxed<Expr>, Boxed<Expr>),
+}
+
+impl Expr {
+    pub fn neg(alloc: Global, a: Expr) -> Result<Expr, AllocError>
+        ensures { IfOk result (λ x. formula_of x ≡ negative (formula_of a)) }
+    {
+        Ok(Expr::Neg(Boxed::new(alloc, a)?))
+    }
+
+    pub fn add(alloc: Global, a: Expr, b: Expr) -> Result<Expr, AllocError>
+        ensures { IfOk result (λ x. formula_of x ≡ sum (formula_of a) (formula_of b)) }
+    {
+        Ok(Expr::Add(Boxed::new(alloc, a)?, Boxed::new(alloc, b)?))
+    }
+
+    pub fn sub(alloc: Global, a: Expr, b: Expr) -> Result<Expr, AllocError>
+        ensures { IfOk result (λ x. formula_of x ≡ difference (formula_of a) (formula_of b)) }
+    {
+        Ok(Expr::Sub(Boxed::new(alloc, a)?, Boxed::new(alloc, b)?))
+    }
+
+    pub fn mul(alloc: Global, a: Expr, b: Expr) -> Result<Expr, AllocError>
+        ensures { IfOk result (λ x. formula_of x ≡ product (formula_of a) (formula_of b)) }
+    {
+        Ok(Expr::Mul(Boxed::new(alloc, a)?, Boxed::new(alloc, b)?))
+    }
 }

@@ -1,14 +1,25 @@
 //! Specifications: words of nets, and checks that two word expressions are equal.
 //!
+//! - `Spec`: an order of the inputs with their letters, `Word`s and `Check`s, and what they read as;
 //! - `Expr`: an expression as it is written, a tree of numbers, words and operations;
 //! - `laws`: what holds of the definitions below.
 //!
 //! What contracts say of a specification stands in `specs/`: `Formula` is an expression as a plain tree,
-//! `Specification` a whole specification as plain data, `Value` has the value of a word and of a formula
-//! and says when it is in range, and `Named` lists the words and the nets that a check names.
+//! `Specification` a whole specification as plain data, `WellFormed` what holds of each, `Value` has the value
+//! of a word and of a formula and says when it is in range, `Named` lists the nets that a check names.
 #![tactic(auto)]
 
+mod check;
 mod expr;
 pub mod laws;
+mod named;
+mod order;
+mod spec;
+mod value;
+mod word;
 
+pub use check::Check;
 pub use expr::Expr;
+pub use order::input_order;
+pub use spec::Spec;
+pub use word::Word;

@@ -1,0 +1,14 @@
+pub mod ApartLines
+pub mod ApartNames
+pub mod CycleCalls
+pub mod Drafts
+pub mod Finishing
+pub mod FirstCalls
+pub mod Gathering
+pub mod LineFaults
+pub mod LineLemmas
+pub mod Places
+pub mod Ranges
+pub mod Readings
+pub mod Sizes
+pub mod SymbolLemmas

@@ -1,0 +1,12 @@
+pub mod Faults
+pub mod Forms
+pub mod Gathered
+pub mod Later
+pub mod Lines
+pub mod Reading
+pub mod Statements
+pub mod Steps
+pub mod Symbols
+pub mod Texts
+pub mod Views
+pub mod Words

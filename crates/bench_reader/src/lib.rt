@@ -1,0 +1,23 @@
+//! The `.bench` format of the ISCAS circuits: what each list of bytes says, and a reader of it.
+//!
+//! - `read` answers the netlist of the bytes, or their first fault;
+//! - `BenchCause`, `BenchFault`: what may be wrong with the bytes, and on which line.
+//!
+//! The format is defined in `specs/`: `Lines` (the lines of a text), `Symbols`, `Forms` and `Words` (what
+//! stands on a line), `Statements` (what it says), `Faults` (what is wrong with it), `Later` (what is wrong
+//! with all lines together) and `Reading`. Each reader is proved to answer what these definitions give.
+#![tactic(auto)]
+
+mod fault;
+mod form;
+mod gather;
+mod reader;
+mod statement;
+mod symbol;
+#[cfg(test)]
+mod tests;
+mod text;
+mod word;
+
+pub use fault::{BenchCause, BenchError, BenchFault};
+pub use reader::read;

@@ -1,0 +1,65 @@
+ghost use Rattle.std.specs.Prelude.{◌≡◌, ◌<◌, ◌≤◌, ◌∷◌, [], length, false, true, slice_index, IfSome, MatchOption};
+ghost use Rattle.bench_reader.specs.Symbols.{is_white, is_name_byte, name, sign, symbols};
+ghost use Rattle.bench_reader.specs.Views.{seen_symbol};
+
+use crate::text::{is_of_name, name_len, white_len};
+
+/// A name or a sign of a line. A stray byte is none of them and no white space.
+#[derive(Clone, Copy)]
+pub(crate) enum Symbol<'a> {
+    Name(&'a str),
+    Opening,
+    Closing,
+    Comma,
+    Equals,
+    Stray,
+}
+
+fn skip_white(text: &[u8]) -> &[u8]
+    ensures same { symbols result.now ≡ symbols text.now }
+    ensures first { is_white (slice_index result.now 0) ≡ false }
+    ensures no_longer { length result.now ≤ length text.now }
+{
+    let (_, rest) = text.split_at(white_len(text));
+    rest
+}
+
+/// The name at the front, as long as it can be, and the text after it.
+fn split_name(text: &[u8]) -> (&str, &[u8])
+    requires { is_name_byte (slice_index text.now 0) ≡ true }
+    ensures symbol { symbols text.now ≡ name result.0.now ∷ symbols result.1.now }
+    ensures shorter { length result.1.now < length text.now }
+{
+    let (front, rest) = text.split_at(name_len(text));
+    (str::from_utf8(front).unwrap(), rest)
+}
+
+fn sign_of<'a>(byte: u8) -> Symbol<'a>
+    requires { is_white byte ≡ false }
+    ensures { seen_symbol result ≡ sign byte }
+{
+    match byte {
+        b'(' => Symbol::Opening,
+        b')' => Symbol::Closing,
+        b',' => Symbol::Comma,
+        b'=' => Symbol::Equals,
+        _ => Symbol::Stray,
+    }
+}
+
+/// The first symbol, and the text after it.
+pub(crate) fn next_symbol(text: &[u8]) -> Option<(Symbol<'_>, &[u8])>
+    ensures symbol { MatchOption result (symbols text.now ≡ []) (λ found. symbols text.now ≡ seen_symbol found.0 ∷ symbols found.1.now) }
+    ensures shorter { IfSome result (λ found. length found.1.now < length text.now) }
+{
+    let text = skip_white(text);
+    if text.is_empty() {
+        return None;
+    }
+    let first = text[0];
+    if is_of_name(first) {
+        let (name, rest) = split_name(text);
+        return Some((Symbol::Name(name), rest));
+    }
+    Some((sign_of(first), &text[1..]))
+}

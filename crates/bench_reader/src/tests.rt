@@ -1,0 +1,179 @@
+use super::*;
+use netlist::Netlist;
+use std::alloc::{AllocError, Global};
+use std::process::Abort;
+use std::test::Fail;
+
+fn outcome(rt: &(impl Abort + AllocGlobal), bytes: &[u8]) -> Result<Netlist, BenchError> {
+    assert!(rt; bytes.len() <= 1_048_576);
+    read(rt.alloc(), bytes)
+}
+
+/// The line and the cause of the first fault, and line 0 where there is none.
+fn fault(rt: &(impl Abort + AllocGlobal), bytes: &[u8]) -> (u32, Option<BenchCause>) {
+    match outcome(rt, bytes) {
+        Ok(_) => (0, None),
+        Err(BenchError::Fault(fault)) => (fault.line, Some(fault.cause)),
+        Err(BenchError::Memory) => panic!(rt; "out of memory"),
+    }
+}
+
+#[test]
+fn the_first_fault_decides(rt: HostRuntime) {
+    let rows: [(&[u8], u32, BenchCause); 20] = [
+        (
+            b"INPUT(a)\nOUTPUT(z)\nz = DFF(a)\n",
+            3,
+            BenchCause::Sequential,
+        ),
+        (b"INPUT(a)\nx = AND(x, a)\n", 2, BenchCause::Cycle),
+        (b"INPUT(a)\nz = AND(a", 2, BenchCause::BadLine),
+        (
+            b"INPUT(a)\nx = NOT(q)\na = NOT(x)\n",
+            3,
+            BenchCause::DuplicateNet,
+        ),
+        (b"INPUT(a)\nOUTPUT(q)\n", 2, BenchCause::UndefinedNet),
+        (
+            b"INPUT(a)\n\n# comment\nx = AND(y, a)\ny = OR(x, a)\nz = NOT(w)\n",
+            6,
+            BenchCause::UndefinedNet,
+        ),
+        (
+            b"INPUT(a)\r\n\r\n# comment\r\ny = BUF(x)\r\nx = AND(y, a)\r\n",
+            4,
+            BenchCause::Cycle,
+        ),
+        (
+            b"a = NOT(b)\nb = NOT(c)\nc = NOT(b)\nINPUT(d)",
+            2,
+            BenchCause::Cycle,
+        ),
+        (b"INPUT(a)\nz = AND2(a)", 2, BenchCause::BadLine),
+        (b"INPUT(a) INPUT(b)", 1, BenchCause::BadLine),
+        (b"INPUT a", 1, BenchCause::BadLine),
+        (b"INPUT(a b)", 1, BenchCause::BadLine),
+        (b"z = AND(a,)", 1, BenchCause::BadLine),
+        (b"FANOUT(a)", 1, BenchCause::BadLine),
+        (b"INPUT(a\x7f)", 1, BenchCause::BadLine),
+        (b"z = MUX(a, b)", 1, BenchCause::UnknownGate),
+        (b"z = AND()", 1, BenchCause::BadArity),
+        (b"z = BUF(a, b)", 1, BenchCause::BadArity),
+        (b"# \xff\nINPUT(\xc3)", 2, BenchCause::NotAscii),
+        (b"z = FOO(\xff", 1, BenchCause::NotAscii),
+    ];
+    for (bytes, line, cause) in rows.iter() {
+        assert_eq!(rt; fault(&rt, bytes), (*line, Some(*cause)), "{bytes:?}");
+    }
+}
+
+#[test]
+fn a_text_is_its_netlist(rt: HostRuntime) {
+    let half = b"INPUT(a)\nINPUT(b)\nOUTPUT(s)\nOUTPUT(c)\ns = XOR(a, b)\nc = AND(a, b)\n";
+    let netlist = outcome(&rt, half).expect(&rt, "the half adder");
+    assert_eq!(rt; (netlist.inputs(), netlist.gates()), (2, 2));
+    assert_eq!(rt; netlist.outputs(), [2u32, 3].as_slice());
+    assert_eq!(rt;
+        (netlist.find("b"), netlist.find("s"), netlist.find("t")),
+        (Some(1), Some(2), None)
+    );
+
+    let late = outcome(&rt, b"INPUT(a)\nz = AND(y, a)\ny = NOT(a)").expect(&rt, "y comes late");
+    assert_eq!(rt; late.topological(), [2u32, 1].as_slice());
+
+    let text =
+        b"INPUT(a)\r\nOUTPUT(b)\r\nINPUT(b)\r\nOUTPUT(y)\r\n\tOutput ( b ) \r\ny=Buf( a )#\xff\r\n";
+    let spaced = outcome(&rt, text).expect(&rt, "white space, and outputs that are inputs");
+    assert_eq!(rt; spaced.outputs(), [1u32, 2].as_slice());
+
+    let empty = outcome(&rt, b"").expect(&rt, "no lines");
+    assert_eq!(rt; (empty.inputs(), empty.gates()), (0, 0));
+}
+
+fn many_inputs(alloc: Global, count: u32) -> Result<String, AllocError> {
+    let mut text = String::new(alloc);
+    for i in 0..count {
+        write!(text, "INPUT(i{i})\n")?;
+    }
+    Ok(text)
+}
+
+fn many_gates(alloc: Global, count: u32) -> Result<String, AllocError> {
+    let mut text = String::from_str(alloc, "INPUT(a)\n")?;
+    for i in 0..count {
+        write!(text, "g{i} = NOT(a)\n")?;
+    }
+    Ok(text)
+}
+
+fn wide_gate(alloc: Global, count: u32) -> Result<String, AllocError> {
+    let mut text = String::from_str(alloc, "z = OR(a")?;
+    for _ in 1..count {
+        text.push_str(", a")?;
+    }
+    text.push_str(")\nINPUT(a)")?;
+    Ok(text)
+}
+
+fn long_name(alloc: Global, count: u32) -> Result<String, AllocError> {
+    let mut text = String::from_str(alloc, "INPUT(a)\nINPUT(")?;
+    for _ in 0..count {
+        text.push('x')?;
+    }
+    text.push(')')?;
+    Ok(text)
+}
+
+#[test]
+fn the_limits_are_kept(rt: HostRuntime) -> Result<(), Fail> {
+    let alloc = rt.alloc();
+    let too_large = Some(BenchCause::TooLarge);
+    assert_eq!(rt; fault(&rt, many_inputs(alloc, 256)?.as_bytes()), (0, None));
+    assert_eq!(rt;
+        fault(&rt, many_inputs(alloc, 257)?.as_bytes()),
+        (257, too_large)
+    );
+    assert_eq!(rt; fault(&rt, many_gates(alloc, 4096)?.as_bytes()), (0, None));
+    assert_eq!(rt;
+        fault(&rt, many_gates(alloc, 4097)?.as_bytes()),
+        (4098, too_large)
+    );
+    assert_eq!(rt; fault(&rt, wide_gate(alloc, 64)?.as_bytes()), (0, None));
+    assert_eq!(rt;
+        fault(&rt, wide_gate(alloc, 65)?.as_bytes()),
+        (1, too_large)
+    );
+    assert_eq!(rt; fault(&rt, long_name(alloc, 64)?.as_bytes()), (0, None));
+    assert_eq!(rt;
+        fault(&rt, long_name(alloc, 65)?.as_bytes()),
+        (2, too_large)
+    );
+    Ok(())
+}
+
+#[test]
+fn faults_are_printed_as_line_and_cause(rt: HostRuntime) -> Result<(), Fail> {
+    let rows = [
+        (BenchCause::BadLine, "1048577 bad-line"),
+        (BenchCause::UnknownGate, "1048577 unknown-gate"),
+        (BenchCause::BadArity, "1048577 bad-arity"),
+        (BenchCause::DuplicateNet, "1048577 duplicate-net"),
+        (BenchCause::UndefinedNet, "1048577 undefined-net"),
+        (BenchCause::Cycle, "1048577 cycle"),
+        (BenchCause::Sequential, "1048577 sequential"),
+        (BenchCause::TooLarge, "1048577 too-large"),
+        (BenchCause::NotAscii, "1048577 not-ascii"),
+    ];
+    for (cause, text) in rows.iter() {
+        let error = BenchError::Fault(BenchFault {
+            line: 1_048_577,
+            cause: *cause,
+        });
+        assert_eq!(rt; format!(in rt.alloc(); "{error}")?.as_str(), *text);
+    }
+    assert_eq!(rt;
+        format!(in rt.alloc(); "{}", BenchError::Memory)?.as_str(),
+        "out of memory"
+    );
+    Ok(())
+}

@@ -1,0 +1,16 @@
+use Rattle.std.proofs.Common.{◌≡◌, ◌∙◌, length}
+use Rattle.std.specs.Int.{w128}
+use Rattle.std.specs.Str.Parse.{digits_value}
+use Rattle.std.proofs.lemmas.Str.Parse.{parse_signed_digits}
+use Rattle.first_form.proofs.Numbers.{digits_are_numerals, digits_are_utf8, ok_since, ok_below}
+use Rattle.first_form.proofs.sums.value_of.Goals as goal
+
+pub unwrap-requires : goal.unwrap-requires
+unwrap-requires c = ok_since c.from_utf8.result _ _ c.from_utf8.ensures.cases (λ e h. h.0 (digits_are_utf8 c.args.digits.now c.requires.digits))
+
+pub returns : goal.returns
+returns c =
+    let same : c.unwrap.result.now ≡ c.args.digits.now = (rw c.unwrap.ensures at c.from_utf8.ensures.cases).0 in
+    let parses = rw same at c.parse.ensures.value.0 in
+    c.ok.ensures.value ∙ ok_below c.parse.result (digits_value 10 c.args.digits.now) (length c.args.digits.now) c.requires.some
+    (parse_signed_digits digits_are_numerals w128 c.args.digits.now c.parse.result parses c.requires.digits)

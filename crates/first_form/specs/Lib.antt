@@ -1,0 +1,5 @@
+pub mod FirstForm
+pub mod GoodWords
+pub mod Names
+pub mod Parts
+pub mod Sums

@@ -1,0 +1,79 @@
+-- What becomes of a draft: a circuit, or the first call that stands in its way.
+use Rattle.std.specs.Prelude.{◌≡◌, ℕ, ◌-◌, min, Bool, not, List, [], ◌∷◌, ◌++◌, length, map, filter, Option, Some, None, unwrap_or, slice_get, codes, refl}
+use Rattle.std.specs.List.{list_any}
+use Rattle.std.specs.Option.{option_map, option_map_or, option_or}
+use Rattle.netlist.specs.Circuit.{Circuit, Gate, gate_nets, fanin}
+use Rattle.netlist.specs.Circuits.{late}
+use Rattle.netlist.specs.Cone.{is_in_cone}
+use Rattle.netlist.specs.Draft.{Draft, GateLine, late_draft, draft_names, is_defined, nothing, with_input, with_gate, with_output}
+use Rattle.netlist.specs.Fault.{fault}
+use Rattle.netlist.specs.Names.{place_of}
+use Rattle.netlist.specs.declared.fault.NetFault.{NetFault}
+use Rattle.netlist.specs.declared.fault.NetCause.TheVariants.{UndefinedNet, Cycle}
+use Rattle.netlist.specs.declared.gate_word.GateWord.TheVariants.{And}
+
+-- the number of a name's net, and 0 where there is none
+abbrev pub number : Draft → List ℕ → ℕ
+number d name = unwrap_or (place_of (draft_names d) name) 0
+
+abbrev pub numbered : Draft → GateLine → Gate
+numbered d line = record { name = line.name; word = line.word; inputs = map (number d) line.inputs }
+
+-- with numbers in place of names
+abbrev pub circuit_of : Draft → Circuit
+circuit_of d = record {
+  inputs = d.inputs;
+  gates = map (numbered d) d.gates;
+  outputs = map (λ line. number d line.name) d.outputs;
+}
+
+abbrev pub least : List ℕ → Option ℕ
+least [] = None
+least (x ∷ xs) = Some (option_map_or (min x) (least xs) x)
+
+-- the calls that name a net which was not added
+abbrev pub is_undefined : Draft → List ℕ → Bool
+is_undefined d name = not (is_defined d name)
+
+abbrev pub undefined_calls : Draft → List ℕ
+undefined_calls d =
+    map (λ line. line.call) (filter (λ line. list_any (is_undefined d) line.inputs) d.gates)
+    ++ map (λ line. line.call) (filter (λ line. is_undefined d line.name) d.outputs)
+
+-- the gate of the net reaches itself along gate inputs
+abbrev pub is_on_cycle : Circuit → ℕ → Bool
+is_on_cycle c net = is_in_cone c (fanin c net) net
+
+-- the call that added the gate of a net
+abbrev pub call_of : Draft → ℕ → ℕ
+call_of d net = option_map_or (λ line. line.call) (slice_get d.gates (net - length d.inputs)) 0
+
+-- the calls whose gates reach themselves
+abbrev pub cycle_calls : Draft → List ℕ
+cycle_calls d = map (call_of d) (filter (is_on_cycle (circuit_of d)) (gate_nets (circuit_of d)))
+
+abbrev pub undefined_fault : Draft → Option NetFault
+undefined_fault d = option_map (λ at. fault at UndefinedNet) (least (undefined_calls d))
+
+abbrev pub cycle_fault : Draft → Option NetFault
+cycle_fault d = option_map (λ at. fault at Cycle) (least (cycle_calls d))
+
+-- an undefined net comes before a cycle
+abbrev pub finish_fault : Draft → Option NetFault
+finish_fault d = option_or (undefined_fault d) (cycle_fault d)
+
+late-finished : circuit_of late_draft ≡ late
+late-finished = refl
+
+late-no_fault : finish_fault late_draft ≡ None
+late-no_fault = refl
+
+-- x = AND(x, a) in the second call, and an output that is no net in the third
+abbrev pub looped_draft : Draft
+looped_draft = with_gate (with_input nothing (codes "a")) (codes "x") And (codes "x" ∷ codes "a" ∷ [])
+
+looped-cycle : finish_fault looped_draft ≡ Some (fault 2 Cycle)
+looped-cycle = refl
+
+looped-undefined : finish_fault (with_output looped_draft (codes "y")) ≡ Some (fault 3 UndefinedNet)
+looped-undefined = refl

@@ -1,0 +1,13 @@
+-- How a netlist keeps its order and its names.
+use Rattle.std.specs.Prelude.{◌≡◌, ℕ, List, map, Option}
+use Rattle.netlist.specs.Circuit.{Circuit}
+use Rattle.netlist.specs.Nets.{IsSound}
+use Rattle.netlist.specs.Order.{IsAccepted, topological}
+use Rattle.netlist.specs.Source.{FindsNames}
+use Rattle.netlist.specs.declared.source.Source.{Source}
+
+pub record IsOrdered (c : Circuit) (order : List ℕ) (found : List ℕ → Option Source) : Type 0 where
+  pub sound : IsSound c
+  pub accepted : IsAccepted c
+  pub in_order : order ≡ topological c
+  pub sources : FindsNames c.inputs (map (λ gate. gate.name) c.gates) found

@@ -1,0 +1,201 @@
+ghost use Rattle.std.specs.Prelude.{◌≡◌, ◌<◌, ◌^◌, length, map, filter, IfOk, string_bytes, vec_len};
+ghost use Rattle.std.specs.HashMap.{get_by_text};
+ghost use Rattle.std.specs.List.{list_any};
+ghost use Rattle.netlist.specs.Finish.{least};
+ghost use Rattle.std.specs.Option.{option_map};
+ghost use Rattle.netlist.specs.Fault.{AnswersInMemory};
+ghost use Rattle.netlist.specs.Finishing.{is_unknown, earliest, number_in, numbered_in, circuit_in, cycle_call, HasSmallNets};
+ghost use Rattle.netlist.specs.Kept.{net_gate_kept};
+ghost use Rattle.netlist.specs.Maker.{gate_kept, output_kept, drafted};
+ghost use Rattle.netlist.specs.Nets.{IsSound};
+ghost use Rattle.netlist.specs.Source.{FindsNames};
+
+use crate::cycle::cycle_of;
+use crate::draft::{DraftGate, DraftOutput};
+use crate::fault::{NetCause, NetError, NetFault};
+use crate::netlist::Netlist;
+use crate::nets::{NetGate, Nets};
+use crate::order::order_of;
+use crate::source::Source;
+use std::alloc::{AllocError, Global};
+use std::collections::HashMap;
+
+/// The first call that named a net which was never added.
+pub(crate) fn first_unknown(
+    gates: &[DraftGate],
+    outputs: &[DraftOutput],
+    sources: &HashMap<String, Source>,
+) -> Option<u32>
+    ensures { result ≡ earliest (least (map (λ line. line.call) (filter (λ line. list_any (is_unknown (get_by_text sources.now)) line.inputs) (map gate_kept gates.now)))) (least (map (λ line. line.call) (filter (λ line. is_unknown (get_by_text sources.now) line.name) (map output_kept outputs.now)))) }
+{
+    earliest(
+        first_unknown_gate(gates, sources),
+        first_unknown_output(outputs, sources),
+    )
+}
+
+fn first_unknown_gate(gates: &[DraftGate], sources: &HashMap<String, Source>) -> Option<u32>
+    ensures { result ≡ least (map (λ line. line.call) (filter (λ line. list_any (is_unknown (get_by_text sources.now)) line.inputs) (map gate_kept gates.now))) }
+{
+    let mut first = None;
+    for gate in gates {
+        if reads_unknown(&gate.inputs, sources) {
+            first = earliest(first, Some(gate.call));
+        }
+    }
+    first
+}
+
+fn first_unknown_output(outputs: &[DraftOutput], sources: &HashMap<String, Source>) -> Option<u32>
+    ensures { result ≡ least (map (λ line. line.call) (filter (λ line. is_unknown (get_by_text sources.now) line.name) (map output_kept outputs.now))) }
+{
+    let mut first = None;
+    for output in outputs {
+        if !sources.contains_key(output.name.as_str()) {
+            first = earliest(first, Some(output.call));
+        }
+    }
+    first
+}
+
+fn reads_unknown(inputs: &[String], sources: &HashMap<String, Source>) -> bool
+    ensures { result ≡ list_any (is_unknown (get_by_text sources.now)) (map string_bytes inputs.now) }
+{
+    for input in inputs {
+        if !sources.contains_key(input.as_str()) {
+            return true;
+        }
+    }
+    false
+}
+
+pub(crate) fn earliest(a: Option<u32>, b: Option<u32>) -> Option<u32>
+    ensures { result ≡ earliest a b }
+{
+    match (a, b) {
+        (Some(a), Some(b)) => Some(a.min(b)),
+        (Some(a), None) => Some(a),
+        (None, b) => b,
+    }
+}
+
+/// The number of the net of a name, and 0 where there is none.
+fn number_of(name: &str, inputs: u32, sources: &HashMap<String, Source>) -> u32
+    requires { HasSmallNets inputs (get_by_text sources.now) }
+    ensures { result ≡ number_in inputs (get_by_text sources.now) name.now }
+{
+    match sources.get(name) {
+        Some(source) => source.net(inputs),
+        None => 0,
+    }
+}
+
+fn numbers_of(
+    alloc: Global,
+    names: &[String],
+    inputs: u32,
+    sources: &HashMap<String, Source>,
+) -> Result<Vec<u32>, AllocError>
+    requires { HasSmallNets inputs (get_by_text sources.now) }
+    ensures { IfOk result (λ numbers. numbers.items ≡ map (number_in inputs (get_by_text sources.now)) (map string_bytes names.now)) }
+{
+    let mut numbers = Vec::with_capacity(alloc, names.len())?;
+    for name in names {
+        numbers.push(number_of(name.as_str(), inputs, sources))?;
+    }
+    Ok(numbers)
+}
+
+/// The gates with numbers in place of names.
+pub(crate) fn numbered_gates(
+    alloc: Global,
+    gates: &[DraftGate],
+    inputs: u32,
+    sources: &HashMap<String, Source>,
+) -> Result<Vec<NetGate>, AllocError>
+    requires { HasSmallNets inputs (get_by_text sources.now) }
+    ensures { IfOk result (λ numbered. map net_gate_kept numbered.items ≡ map (numbered_in inputs (get_by_text sources.now)) (map gate_kept gates.now)) }
+{
+    let mut numbered = Vec::with_capacity(alloc, gates.len())?;
+    for gate in gates {
+        numbered.push(numbered_gate(alloc, gate, inputs, sources)?)?;
+    }
+    Ok(numbered)
+}
+
+fn numbered_gate(
+    alloc: Global,
+    gate: &DraftGate,
+    inputs: u32,
+    sources: &HashMap<String, Source>,
+) -> Result<NetGate, AllocError>
+    requires { HasSmallNets inputs (get_by_text sources.now) }
+    ensures { IfOk result (λ numbered. net_gate_kept numbered ≡ numbered_in inputs (get_by_text sources.now) (gate_kept gate.now)) }
+{
+    Ok(NetGate {
+        name: String::from_str(alloc, gate.name.as_str())?,
+        word: gate.word,
+        inputs: numbers_of(alloc, &gate.inputs, inputs, sources)?,
+    })
+}
+
+/// The numbers of the outputs.
+pub(crate) fn numbered_outputs(
+    alloc: Global,
+    outputs: &[DraftOutput],
+    inputs: u32,
+    sources: &HashMap<String, Source>,
+) -> Result<Vec<u32>, AllocError>
+    requires { HasSmallNets inputs (get_by_text sources.now) }
+    ensures { IfOk result (λ numbers. numbers.items ≡ map (λ line. number_in inputs (get_by_text sources.now) line.name) (map output_kept outputs.now)) }
+{
+    let mut numbers = Vec::with_capacity(alloc, outputs.len())?;
+    for output in outputs {
+        numbers.push(number_of(output.name.as_str(), inputs, sources))?;
+    }
+    Ok(numbers)
+}
+
+/// The nets of a draft in which every name is known.
+pub(crate) fn nets_of(
+    inputs: Vec<String>,
+    gates: &[DraftGate],
+    outputs: &[DraftOutput],
+    sources: &HashMap<String, Source>,
+) -> Result<Nets, AllocError>
+    requires few { vec_len inputs < 2 ^ 32 }
+    requires small { HasSmallNets (length inputs.items) (get_by_text sources.now) }
+    requires sound { IsSound (circuit_in (drafted 0 inputs.items gates.now outputs.now) (get_by_text sources.now)) }
+    ensures { IfOk result (λ nets. nets ≡ circuit_in (drafted 0 inputs.items gates.now outputs.now) (get_by_text sources.now)) }
+{
+    let alloc = *inputs.allocator();
+    let count = inputs.len() as u32;
+    let gates = numbered_gates(alloc, gates, count, sources)?;
+    let outputs = numbered_outputs(alloc, outputs, count, sources)?;
+    Ok(Nets {
+        inputs,
+        gates,
+        outputs,
+    })
+}
+
+/// The netlist of the nets, unless they have a cycle.
+pub(crate) fn without_cycle(
+    nets: Nets,
+    gates: &[DraftGate],
+    sources: HashMap<String, Source>,
+) -> Result<Netlist, NetError>
+    requires lines { length gates.now ≡ length nets.gates }
+    requires sound { IsSound nets }
+    requires sources { FindsNames nets.inputs (map (λ gate. gate.name) nets.gates) (get_by_text sources) }
+    ensures circuit { IfOk result (λ netlist. netlist ≡ nets) }
+    ensures fault { AnswersInMemory result (option_map (λ at. record { at = at; cause = NetCause.Cycle }) (cycle_call nets (map gate_kept gates.now))) }
+{
+    let alloc = *nets.inputs.allocator();
+    let order = order_of(alloc, &nets)?;
+    if let Some(at) = cycle_of(alloc, &nets, gates, &order)? {
+        let cause = NetCause::Cycle;
+        return Err(NetError::Fault(NetFault { at, cause }));
+    }
+    Ok(Netlist::new(nets, order, sources))
+}

@@ -1,0 +1,127 @@
+ghost use Rattle.std.specs.Prelude.{◌≡◌, ◌<◌, length, All, IfOk, OnOk, OnErr, Some};
+ghost use Rattle.std.specs.HashMap.{get_by_text};
+ghost use Rattle.netlist.specs.Circuit.{IsGate, input_count, net_count, gate_of, name_of};
+ghost use Rattle.netlist.specs.Cone.{cone};
+ghost use Rattle.netlist.specs.Names.{net_of};
+ghost use Rattle.netlist.specs.Netlist.{IsOrdered};
+ghost use Rattle.netlist.specs.Nets.{IsSound};
+ghost use Rattle.netlist.specs.Order.{IsAccepted, topological};
+ghost use Rattle.netlist.specs.Valuation.{valuation};
+
+use crate::cone::cone_of;
+use crate::gate_word::GateWord;
+use crate::nets::Nets;
+use crate::source::Source;
+use crate::values::values_of;
+use std::alloc::AllocError;
+use std::collections::HashMap;
+use std::marker::Model;
+use word_base::Assign;
+
+/// A netlist without cycles.
+#[derive(Drop)]
+pub struct Netlist {
+    nets: Nets,
+    order: Vec<u32>,
+    sources: HashMap<String, Source>,
+}
+
+impl Model for Netlist {
+    ghost use Rattle.std.specs.HashMap.{get_by_text};
+    ghost use Rattle.netlist.specs.Circuit.{Circuit};
+    ghost use Rattle.netlist.specs.Netlist.{IsOrdered};
+
+    ghost Value = { Circuit };
+
+    ghost view = { λ n. n.nets };
+
+    ghost invariant = { λ n. IsOrdered n.nets n.order.items (get_by_text n.sources) };
+}
+
+impl Netlist {
+    pub(crate) fn new(nets: Nets, order: Vec<u32>, sources: HashMap<String, Source>) -> Netlist
+        requires { IsOrdered nets order.items (get_by_text sources) }
+        ensures { result ≡ nets }
+    {
+        Netlist {
+            nets,
+            order,
+            sources,
+        }
+    }
+
+    /// How many nets are inputs. They have the first numbers.
+    pub fn inputs(&self) -> u32
+        ensures inputs { result ≡ input_count self.now }
+        ensures sound { IsSound self.now }
+        ensures accepted { IsAccepted self.now }
+    {
+        let _ = &self.order;
+        self.nets.inputs()
+    }
+
+    pub fn gates(&self) -> u32
+        ensures gates { result ≡ length self.now.gates }
+        ensures sound { IsSound self.now }
+        ensures accepted { IsAccepted self.now }
+    {
+        let _ = &self.order;
+        self.nets.gates()
+    }
+
+    pub fn name(&self, net: u32) -> &str
+        requires { net < net_count self.now }
+        ensures { result.now ≡ name_of self.now net }
+    {
+        self.nets.name(net)
+    }
+
+    /// The net of a name, if there is one.
+    pub fn find(&self, name: &str) -> Option<u32>
+        ensures { result ≡ net_of self.now name.now }
+    {
+        match self.sources.get(name) {
+            Some(source) => Some(source.net(self.nets.inputs())),
+            None => None,
+        }
+    }
+
+    pub fn outputs(&self) -> &[u32]
+        ensures { result.now ≡ self.now.outputs }
+    {
+        self.nets.outputs()
+    }
+
+    /// What the gate of a net computes, and of which nets.
+    pub fn gate(&self, net: u32) -> (GateWord, &[u32])
+        requires { IsGate self.now net }
+        ensures { gate_of self.now net ≡ Some (record { name = name_of self.now net; word = result.0; inputs = result.1.now }) }
+    {
+        self.nets.gate(net)
+    }
+
+    /// The gates, each after all that it reads.
+    pub fn topological(&self) -> &[u32]
+        ensures { result.now ≡ topological self.now }
+    {
+        &self.order
+    }
+
+    /// The gates among the nets and those that they reach along gate inputs, in topological order.
+    pub fn cone(&self, nets: &[u32]) -> Result<Vec<u32>, AllocError>
+        requires { All (λ net. net < net_count self.now) nets.now }
+        ensures { IfOk result (λ gates. gates.items ≡ cone self.now nets.now) }
+    {
+        cone_of(*self.order.allocator(), &self.nets, &self.order, nets)
+    }
+
+    /// Makes `nets` the value of each net at the bits of the inputs.
+    pub fn evaluate(&self, inputs: &Assign, nets: &mut Vec<bool>) -> Result<(), AllocError>
+        requires { length inputs.now ≡ input_count self.now }
+        ensures ok { OnOk result (nets.new.items ≡ valuation self.now inputs.now) }
+        ensures err { OnErr result (nets.new.items ≡ nets.old.items) }
+    {
+        *nets = values_of(*self.order.allocator(), &self.nets, &self.order, inputs)?;
+        Ok(())
+    }
+}
