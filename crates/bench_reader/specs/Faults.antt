@@ -3,6 +3,8 @@ use Rattle.std.specs.Prelude.{◌≡◌, ℕ, ◌==◌, Bool, true, false, not, 
 use Rattle.std.specs.List.{list_any}
 use Rattle.std.specs.Option.{option_map_or}
 use Rattle.std.specs.Str.{str_eq_ignore_ascii_case}
+use Rattle.netlist.specs.Draft.{is_long}
+use Rattle.netlist.specs.Limits.{most_inputs, most_gates, most_fanin}
 use Rattle.netlist.specs.declared.gate_word.GateWord.{GateWord}
 use Rattle.netlist.specs.declared.gate_word.GateWord.TheVariants.{And, Not, Buff}
 use Rattle.bench_reader.specs.declared.fault.BenchCause.{BenchCause}
@@ -38,15 +40,12 @@ abbrev pub has_bad_arity : Form → Bool
 has_bad_arity (gate net word inputs) = option_map_or (λ w. not (takes w (length inputs))) (gate_word word) false
 has_bad_arity _ = false
 
-abbrev pub is_long : List ℕ → Bool
-is_long name = nat_lt 64 (length name)
-
--- a name above 64 bytes, more than 64 inputs of a gate, the 257th input, or the 4,097th gate
+-- a name or the inputs of a gate above their limit, or an input or a gate more than there may be
 abbrev pub is_too_large : List Statement → Form → Bool
-is_too_large earlier (input net) = is_long net || nat_le 256 (length (filter_map input_name earlier))
+is_too_large earlier (input net) = is_long net || nat_le most_inputs (length (filter_map input_name earlier))
 is_too_large earlier (output net) = is_long net
 is_too_large earlier (gate net word inputs) =
-    is_long net || list_any is_long inputs || nat_lt 64 (length inputs) || nat_le 4096 (length (filter_map gate_name earlier))
+    is_long net || list_any is_long inputs || nat_lt most_fanin (length inputs) || nat_le most_gates (length (filter_map gate_name earlier))
 is_too_large earlier _ = false
 
 abbrev pub is_defined : List Statement → List ℕ → Bool

@@ -1,6 +1,6 @@
 -- The symbols of a line: names, and the four signs ( ) , =
-use Rattle.std.specs.Prelude.{◌≡◌, ℕ, ◌==◌, Bool, true, false, not, ◌&&◌, ◌||◌, List, [], ◌∷◌, ◌++◌, codes, filter, nat_eq, nat_lt, if◌then◌else◌, refl}
-use Rattle.std.specs.List.{list_any}
+use Rattle.std.specs.Prelude.{◌≡◌, ℕ, ◌==◌, Bool, true, false, ◌||◌, List, [], ◌∷◌, ◌++◌, codes, filter, if◌then◌else◌, refl}
+use Rattle.netlist.specs.Names.{is_name_byte}
 
 -- a stray byte belongs to no symbol and is no white space
 pub data Symbol : Type 0 where
@@ -15,10 +15,6 @@ pub data Symbol : Type 0 where
 -- a space, a tab or CR
 abbrev pub is_white : ℕ → Bool
 is_white b = b == 32 || b == 9 || b == 13
-
--- from 33 to 126, and none of ( ) , = #
-abbrev pub is_name_byte : ℕ → Bool
-is_name_byte b = nat_lt 32 b && nat_lt b 127 && not (list_any (nat_eq b) (codes "(),=#"))
 
 -- the sign that the byte is
 abbrev pub sign : ℕ → Symbol

@@ -20,7 +20,7 @@ fn fault(rt: &(impl Abort + AllocGlobal), bytes: &[u8]) -> (u32, Option<BenchCau
 
 #[test]
 fn the_first_fault_decides(rt: HostRuntime) {
-    let rows: [(&[u8], u32, BenchCause); 20] = [
+    let rows: [(&[u8], u32, BenchCause); 22] = [
         (
             b"INPUT(a)\nOUTPUT(z)\nz = DFF(a)\n",
             3,
@@ -48,6 +48,16 @@ fn the_first_fault_decides(rt: HostRuntime) {
             b"a = NOT(b)\nb = NOT(c)\nc = NOT(b)\nINPUT(d)",
             2,
             BenchCause::Cycle,
+        ),
+        (
+            b"INPUT(a)\nINPUT(b)\nOUTPUT(s)\nOUTPUT(c)\ns = XOR(a, b)\n",
+            4,
+            BenchCause::UndefinedNet,
+        ),
+        (
+            b"INPUT(a)\nINPUT(b)\nOUTPUT(s)\nOUTPUT(c)\ns = XOR(a, b)\nc = AND(a",
+            6,
+            BenchCause::BadLine,
         ),
         (b"INPUT(a)\nz = AND2(a)", 2, BenchCause::BadLine),
         (b"INPUT(a) INPUT(b)", 1, BenchCause::BadLine),
@@ -88,6 +98,24 @@ fn a_text_is_its_netlist(rt: HostRuntime) {
 
     let empty = outcome(&rt, b"").expect(&rt, "no lines");
     assert_eq!(rt; (empty.inputs(), empty.gates()), (0, 0));
+}
+
+#[test]
+fn c17_is_read(rt: HostRuntime) {
+    let c17 = b"INPUT(1)\nINPUT(2)\nINPUT(3)\nINPUT(6)\nINPUT(7)\nOUTPUT(22)\nOUTPUT(23)\n\
+        10 = NAND(1, 3)\n11 = NAND(3, 6)\n16 = NAND(2, 11)\n19 = NAND(11, 7)\n\
+        22 = NAND(10, 16)\n23 = NAND(16, 19)\n";
+    let netlist = outcome(&rt, c17).expect(&rt, "c17");
+    assert_eq!(rt; (netlist.inputs(), netlist.gates()), (5, 6));
+    assert_eq!(rt; netlist.outputs(), [9u32, 10].as_slice());
+}
+
+#[test]
+fn the_last_line_may_lack_its_end(rt: HostRuntime) {
+    let half = b"INPUT(a)\nINPUT(b)\nOUTPUT(s)\nOUTPUT(c)\ns = XOR(a, b)\nc = AND(a, b)";
+    let netlist = outcome(&rt, half).expect(&rt, "the half adder");
+    assert_eq!(rt; (netlist.inputs(), netlist.gates()), (2, 2));
+    assert_eq!(rt; netlist.outputs(), [2u32, 3].as_slice());
 }
 
 fn many_inputs(alloc: Global, count: u32) -> Result<String, AllocError> {

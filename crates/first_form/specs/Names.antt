@@ -1,25 +1,18 @@
 -- The names of nets and of words.
-use Rattle.std.specs.Prelude.{◌≡◌, ℕ, ◌==◌, Bool, true, false, not, ◌&&◌, ◌||◌, List, [], ◌∷◌, length, codes, nat_eq, nat_lt, nat_le, Option, Some, None, if◌then◌else◌, replicate, refl}
+use Rattle.std.specs.Prelude.{◌≡◌, ℕ, ◌==◌, Bool, true, false, not, ◌&&◌, ◌||◌, List, [], ◌∷◌, length, codes, nat_lt, nat_le, Option, Some, None, if◌then◌else◌, replicate, refl}
 use Rattle.std.specs.Char.{is_ascii_alphabetic, is_ascii_digit}
 use Rattle.std.specs.List.{list_any, list_all}
 use Rattle.std.specs.Str.{bytes_eq}
 use Rattle.netlist.specs.Circuit.{Circuit}
 use Rattle.netlist.specs.Circuits.{half}
-use Rattle.netlist.specs.Names.{net_of}
-
--- the bytes of a name
-abbrev pub longest_name : ℕ
-longest_name = 64
+use Rattle.netlist.specs.Limits.{longest_name}
+use Rattle.netlist.specs.Names.{is_name_byte, net_of}
 
 abbrev pub is_short : List ℕ → Bool
 is_short name = nat_le (length name) longest_name
 
--- from 33 to 126, and none of ( ) , = #
-abbrev pub is_net_byte : ℕ → Bool
-is_net_byte b = nat_lt 32 b && nat_lt b 127 && not (list_any (nat_eq b) (codes "(),=#"))
-
 abbrev pub is_net_name : List ℕ → Bool
-is_net_name name = nat_lt 0 (length name) && is_short name && list_all is_net_byte name
+is_net_name name = nat_lt 0 (length name) && is_short name && list_all is_name_byte name
 
 -- the number of a net
 abbrev pub net_number : Circuit → List ℕ → Option ℕ

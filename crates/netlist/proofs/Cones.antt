@@ -53,14 +53,14 @@ with_nets-has nets (net ∷ more) q has = ⊎_elim
     (Contains-cases net more q has)
 
 -- what the lists of a list's elements have
-flat_map-from : (f : ℕ → List ℕ) (xs : List ℕ) (q : ℕ) → is_among (flat_map f xs) q ≡ true → (x : ℕ) × Contains xs x × Contains (f x) q
+pub flat_map-from : (f : ℕ → List ℕ) (xs : List ℕ) (q : ℕ) → is_among (flat_map f xs) q ≡ true → (x : ℕ) × Contains xs x × Contains (f x) q
 flat_map-from f [] q found = absurd (false≢true found)
 flat_map-from f (x ∷ xs) q found = ⊎_elim
     (λ here. (x, Contains-head x xs, Contains-from_among (f x) q here))
     (λ there. let rest = flat_map-from f xs q there in (rest.0, (suc rest.1.0, omega arith, rest.1.2), rest.2))
     (among-append (f x) (flat_map f xs) q found)
 
-flat_map-has : (f : ℕ → List ℕ) (xs : List ℕ) (x q : ℕ) → Contains xs x → Contains (f x) q → is_among (flat_map f xs) q ≡ true
+pub flat_map-has : (f : ℕ → List ℕ) (xs : List ℕ) (x q : ℕ) → Contains xs x → Contains (f x) q → is_among (flat_map f xs) q ≡ true
 flat_map-has f [] x q has of = absurd (Contains-nil x has)
 flat_map-has f (y ∷ xs) x q has of = ⊎_elim
     (λ here. among-append_left (f y) (flat_map f xs) q (among-from_Contains (f y) q (subst (λ z. Contains (f z) q) (sym here) of)))

@@ -1,5 +1,5 @@
 -- A circuit without a call on a cycle is accepted, and one whose order is complete has no such call.
-use Rattle.std.specs.Prelude.{◌≡◌, ℕ, ◌<◌, true, false, List, length, Option, None, Contains, All, IsTrue}
+use Rattle.std.specs.Prelude.{◌≡◌, ℕ, true, List, length, None}
 use Rattle.std.proofs.Common.{⊎_elim, inl, inr}
 use Rattle.std.proofs.lemmas.Bool.{both_ways, false_from_ne_true}
 use Rattle.netlist.proofs.Accepted.{accepted-iff_full}
@@ -7,7 +7,7 @@ use Rattle.netlist.proofs.Calls.{none_least, least-if_none}
 use Rattle.netlist.proofs.Cones.{is_in_cone-reached}
 use Rattle.netlist.proofs.Gates.{IsGate-from_input}
 use Rattle.netlist.proofs.Members.{Contains-gate_nets}
-use Rattle.netlist.specs.Circuit.{Circuit, IsGate, input_count, net_count, gate_nets, fanin}
+use Rattle.netlist.specs.Circuit.{Circuit, IsGate, input_count, gate_nets, fanin}
 use Rattle.netlist.specs.Cone.{IsReachedFrom}
 use Rattle.netlist.specs.Draft.{GateLine}
 use Rattle.netlist.specs.Finish.{is_on_cycle}
@@ -16,7 +16,7 @@ use Rattle.netlist.specs.Nets.{IsSound}
 use Rattle.netlist.specs.Order.{IsAccepted, Reaches, step, steps, topological}
 
 -- on a cycle is what reaches itself
-circle-from : (c : Circuit) (net : ℕ) → is_on_cycle c net ≡ true → Reaches c net net
+pub circle-from : (c : Circuit) (net : ℕ) → is_on_cycle c net ≡ true → Reaches c net net
 circle-from c net is = ⊎_elim (λ has. step has) (λ far. steps far.1 far.2) ((is_in_cone-reached c (fanin c net) net).0 is)
 
 from_reaches : {c : Circuit} {net to : ℕ} → Reaches c net to → IsReachedFrom c (fanin c net) to
@@ -27,13 +27,15 @@ reader_is_gate : {c : Circuit} {net to : ℕ} → Reaches c net to → IsGate c 
 reader_is_gate {c} {net} {to} (step reads) = IsGate-from_input c net to reads
 reader_is_gate {c} {net} (steps {input = input} reads rest) = IsGate-from_input c net input reads
 
+pub on_cycle-from : (c : Circuit) (net : ℕ) → Reaches c net net → is_on_cycle c net ≡ true
+on_cycle-from c net circle = (is_in_cone-reached c (fanin c net) net).1 (from_reaches circle)
+
 pub accepted-from_none : (c : Circuit) (lines : List GateLine) → IsSound c → cycle_call c lines ≡ None → IsAccepted c
 accepted-from_none c lines sound none = record {
   inputs = sound.inputs;
   outputs = sound.outputs;
   no_cycle = λ net circle.
-      let on : is_on_cycle c net ≡ true = (is_in_cone-reached c (fanin c net) net).1 (from_reaches circle) in
-      both_ways (is_on_cycle c net) (none_least (is_on_cycle c) (call_at (input_count c) lines) (gate_nets c) none net (Contains-gate_nets c net (reader_is_gate circle))) on;
+      both_ways (is_on_cycle c net) (none_least (is_on_cycle c) (call_at (input_count c) lines) (gate_nets c) none net (Contains-gate_nets c net (reader_is_gate circle))) (on_cycle-from c net circle);
 }
 
 pub none-from_full : (c : Circuit) (lines : List GateLine) → IsSound c → length (topological c) ≡ length c.gates → cycle_call c lines ≡ None

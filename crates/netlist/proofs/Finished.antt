@@ -1,21 +1,21 @@
 -- What a draft without a fault becomes.
-use Rattle.std.specs.Prelude.{◌≡◌, ◌≢◌, ℕ, suc, ◌+◌, ◌-◌, ◌<◌, ◌≤◌, ◌⊎◌, Bool, true, false, not, List, [], ◌∷◌, ◌++◌, length, map, filter, get_or, slice_get, Option, Some, None, is_some, unwrap_or, Contains, All, refl}
+use Rattle.std.specs.Prelude.{◌≡◌, ℕ, suc, ◌-◌, ◌<◌, Bool, false, not, List, [], ◌∷◌, ◌++◌, length, map, filter, get_or, slice_get, Option, Some, None, is_some, unwrap_or, Contains, All, refl}
 use Rattle.std.specs.List.{list_any, IsDistinct}
 use Rattle.std.specs.Option.{option_map, option_map_or, option_or}
 use Rattle.std.specs.Str.{bytes_eq}
-use Rattle.std.proofs.Common.{sym, ◌∙◌, ap, subst, inl, inr, ⊎_elim, arith, length-append}
-use Rattle.std.proofs.lemmas.Bool.{cases_Bool, cases_lt, both_ways, false_from_ne_true, not-false, not-true}
+use Rattle.std.proofs.Common.{sym, ◌∙◌, ap, subst, ⊎_elim, arith, length-append}
+use Rattle.std.proofs.lemmas.Bool.{cases_lt, both_ways, false_from_ne_true, not-false}
 use Rattle.std.proofs.lemmas.List.{length-map, get_or_append_left, get_or-append_right}
-use Rattle.std.proofs.lemmas.List.Elements.{All-map, All-contains, All-weaker}
+use Rattle.std.proofs.lemmas.List.Elements.{All-map, All-weaker}
 use Rattle.std.proofs.lemmas.Map.Keys.{IsDistinct-from_apart, any_passes_from_place}
-use Rattle.std.proofs.lemmas.Option.{slice_get_within, slice_get-get_or, get_or_from_slice_get, slice_get-map, slice_get_cases}
+use Rattle.std.proofs.lemmas.Option.{slice_get-get_or, get_or_from_slice_get, slice_get-map, slice_get_cases}
 use Rattle.netlist.proofs.Calls.{least-append, none_least, earliest-None}
 use Rattle.netlist.proofs.Gates.{IsGate-from_input, gate_of-at}
 use Rattle.netlist.proofs.Members.{Contains-head, Contains-cases}
 use Rattle.netlist.proofs.Waits.{Contains-get_or}
 use Rattle.netlist.proofs.Makers.{is_some-is_defined}
 use Rattle.netlist.proofs.Sources.{same-from_bytes_eq, place_of-found, found-within}
-use Rattle.netlist.specs.Circuit.{Circuit, Gate, IsGate, input_count, net_count, fanin, gate_of}
+use Rattle.netlist.specs.Circuit.{Gate, IsGate, net_count, gate_of}
 use Rattle.netlist.specs.Draft.{Draft, GateLine, OutputLine, draft_names, is_defined}
 use Rattle.netlist.specs.Finish.{number, numbered, circuit_of, least, is_undefined, undefined_calls, undefined_fault, cycle_fault, finish_fault}
 use Rattle.netlist.specs.Fault.{fault}
@@ -23,7 +23,6 @@ use Rattle.netlist.specs.declared.fault.NetCause.TheVariants.{UndefinedNet}
 use Rattle.netlist.specs.Finishing.{is_unknown, earliest, number_in, numbered_in, circuit_in, HasSmallNets}
 use Rattle.netlist.specs.Limits.{AcceptsArity, IsSizedGate}
 use Rattle.netlist.specs.Maker.{IsKept, IsSizedLine}
-use Rattle.netlist.specs.Names.{names_of, place_of}
 use Rattle.netlist.specs.Nets.{IsSound}
 use Rattle.netlist.specs.Order.{IsInput}
 use Rattle.netlist.specs.Source.{name_at, source_net, FindsNames}

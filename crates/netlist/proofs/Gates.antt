@@ -1,11 +1,12 @@
 -- The gate of a net.
-use Rattle.std.specs.Prelude.{◌≡◌, ℕ, ◌-◌, ◌<◌, ◌≤◌, ◌⊎◌, Bool, true, false, List, [], ◌∷◌, map, nat_lt, slice_get, Option, Some, None, Contains, refl}
+use Rattle.std.specs.Prelude.{◌≡◌, ℕ, ◌-◌, ◌<◌, ◌≤◌, ◌⊎◌, Bool, true, false, List, [], ◌∷◌, length, map, nat_lt, slice_get, Option, Some, None, Contains, refl}
 use Rattle.std.specs.Option.{option_map_or}
 use Rattle.std.proofs.Common.{sym, ◌∙◌, ap, subst, inl, inr, ⊎_elim, arith}
 use Rattle.std.proofs.lemmas.Bool.{cases_lt, le-ltb, lt-ltb, cond-true, cond-false}
-use Rattle.std.proofs.lemmas.Option.{slice_get_cases}
+use Rattle.std.proofs.lemmas.Option.{slice_get_cases, get_or_from_slice_get}
 use Rattle.netlist.proofs.Members.{Contains-cons, Contains-head, Contains-nil}
 use Rattle.netlist.specs.Circuit.{Circuit, Gate, IsGate, input_count, gate_of, fanin}
+use Rattle.netlist.specs.Limits.{IsSizedGate, IsWithinLimits, most_fanin}
 
 -- past the inputs, the gates stand in their order
 pub gate_of-at : (c : Circuit) (net : ℕ) → input_count c ≤ net → gate_of c net ≡ slice_get c.gates (net - input_count c)
@@ -65,3 +66,15 @@ IsGate-from_input c net input reads = go (gate_of c net) refl
     go : (o : Option Gate) → gate_of c net ≡ o → IsGate c net
     go None e = let none : fanin c net ≡ [] = ap (λ found. option_map_or (λ (g : Gate). g.inputs) found []) e in absurd (Contains-nil input (subst (λ xs. Contains xs input) none reads))
     go (Some gate) e = let stands : Stands c net gate = Stands-from_gate_of c net gate e in stands.is_gate
+
+-- a gate has not too many inputs
+pub fanin-few : (c : Circuit) → IsWithinLimits c → (net : ℕ) → length (fanin c net) ≤ most_fanin
+fanin-few c limits net = go (gate_of c net) refl
+  where
+    go : (o : Option Gate) → gate_of c net ≡ o → length (fanin c net) ≤ most_fanin
+    go None e = let none : length (fanin c net) ≡ 0 = ap (λ found. length (option_map_or (λ (g : Gate). g.inputs) found [])) e in omega (arith, none)
+    go (Some gate) e =
+        let stands : Stands c net gate = Stands-from_gate_of c net gate e in
+        let low : net - input_count c < length c.gates = omega (arith, stands.is_gate.0, stands.is_gate.1) in
+        let sized : IsSizedGate gate = subst IsSizedGate (get_or_from_slice_get c.gates (net - input_count c) gate gate stands.at) (limits.each_gate (net - input_count c) gate low) in
+        subst (λ xs. length xs ≤ most_fanin) (sym (fanin-of_gate c net gate e)) sized.fanin

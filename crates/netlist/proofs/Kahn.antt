@@ -1,18 +1,18 @@
 -- Each round of the search for an order gives one place more of the topological order.
-use Rattle.std.specs.Prelude.{◌≡◌, ◌≢◌, ℕ, zero, suc, ◌+◌, ◌-◌, ◌<◌, ◌≤◌, ◌==◌, ◌⊎◌, Bool, true, false, cond, not, ◌&&◌, ◌||◌, List, [], ◌∷◌, ◌++◌, length, take, nat_eq, nat_lt, nat_le, count_by, find, slice_get, option_to_list, Option, Some, None, get_or, Contains, All, if◌then◌else◌, refl}
+use Rattle.std.specs.Prelude.{◌≡◌, ◌≢◌, ℕ, zero, suc, ◌+◌, ◌-◌, ◌<◌, ◌≤◌, ◌==◌, Bool, true, false, cond, not, ◌&&◌, ◌||◌, List, [], ◌∷◌, ◌++◌, length, nat_eq, nat_lt, nat_le, count_by, find, slice_get, option_to_list, Option, Some, None, get_or, Contains, refl}
 use Rattle.std.specs.BTreeMap.{is_at}
 use Rattle.std.specs.BTreeSet.{BTreeSet, contains}
 use Rattle.std.specs.Ordering.{nat_cmp}
 use Rattle.std.specs.List.{list_any, list_all, range_with_len}
-use Rattle.std.proofs.Common.{sym, ◌∙◌, ap, subst, inl, inr, ⊎_elim, arith, eqb-true}
-use Rattle.std.proofs.lemmas.Bool.{cases_Bool, cases_eq, cases_lt, both_ways, false≢true, cond-true, cond-false, and_parts, and_from, or_cases, or_parts, eq-eqb, ne_eqb, lt-ltb, le-ltb, le-leb, leb-true, ltb-true, ltb-false, false_from_ne_true, not-true}
+use Rattle.std.proofs.Common.{sym, ◌∙◌, ap, subst, ⊎_elim, arith, eqb-true}
+use Rattle.std.proofs.lemmas.Bool.{cases_Bool, cases_eq, cases_lt, both_ways, cond-true, cond-false, and_parts, and_from, eq-eqb, ne_eqb, lt-ltb, le-ltb, le-leb, leb-true, ltb-true, false_from_ne_true}
 use Rattle.std.proofs.lemmas.List.{append-nil, length_push, length-take, get_or-take}
 use Rattle.std.proofs.lemmas.Option.{slice_get-get_or}
 use Rattle.std.proofs.lemmas.List.Folds.{list_any-append}
 use Rattle.std.proofs.lemmas.List.Sums.{sum_by-cons}
 use Rattle.netlist.proofs.Gates.{IsGate-from_input}
-use Rattle.netlist.proofs.Members.{Contains-from_among, among-from_Contains, among_push, among-append_left, among-append_right, Contains-head, Contains-cases, find-Some, find-None, list_all-true, Contains-gate_nets, IsGate-from_gate_nets, length-gates}
-use Rattle.netlist.proofs.Topological.{Begins, begins_first, begins_more, Next, Next-from_is_next}
+use Rattle.netlist.proofs.Members.{Contains-from_among, among-from_Contains, Contains-head, Contains-cases, find-Some, find-None, Contains-gate_nets, IsGate-from_gate_nets, length-gates}
+use Rattle.netlist.proofs.Topological.{Begins, begins_first, Next, Next-from_is_next}
 use Rattle.netlist.proofs.Waits.{fanin-past, Contains-get_or}
 use Rattle.netlist.specs.Circuit.{Circuit, IsGate, input_count, net_count, gate_nets, fanin}
 use Rattle.netlist.specs.Order.{IsInput, is_among, is_ready, is_next, with_next, first_listed, topological}

@@ -1,7 +1,9 @@
 pub mod Accepted
 pub mod Calls
+pub mod Circles
 pub mod Cones
 pub mod Cycles
+pub mod DepthFirst
 pub mod Descent
 pub mod Examples
 pub mod Finished
@@ -9,11 +11,13 @@ pub mod Gates
 pub mod Kahn
 pub mod Kept
 pub mod Makers
+pub mod Marking
 pub mod Members
 pub mod Polynomials
 pub mod Reach
 pub mod Rounds
 pub mod Settled
+pub mod Settling
 pub mod Sources
 pub mod Topological
 pub mod Vecs

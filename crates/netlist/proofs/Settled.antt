@@ -1,12 +1,11 @@
 -- Gates computed in topological order.
-use Rattle.std.specs.Prelude.{◌≡◌, ◌≢◌, ℕ, suc, ◌+◌, ◌-◌, ◌<◌, ◌≤◌, ◌⊎◌, Bool, true, false, List, [], ◌∷◌, length, map, take, Contains, slice_get, get_or, Option, Some, None, nat_eq, slice_set, refl}
-use Rattle.std.specs.List.{IsDistinct}
-use Rattle.std.proofs.Common.{sym, ◌∙◌, ap, subst, inl, inr, ⊎_elim, arith}
-use Rattle.std.proofs.lemmas.Bool.{cases_eq, cases_lt, both_ways, eq-eqb}
+use Rattle.std.specs.Prelude.{◌≡◌, ◌≢◌, ℕ, suc, ◌+◌, ◌-◌, ◌<◌, ◌≤◌, Bool, false, List, [], ◌∷◌, length, map, Contains, slice_get, get_or, Some, nat_eq, slice_set, refl}
+use Rattle.std.proofs.Common.{sym, ◌∙◌, ap, subst, ⊎_elim, arith}
+use Rattle.std.proofs.lemmas.Bool.{cases_lt, both_ways, eq-eqb}
 use Rattle.std.proofs.lemmas.List.{get_or-set_same, get_or-set_other, length-set, length-take, get_or-take}
 use Rattle.std.proofs.lemmas.Map.Keys.{apart_from_distinct}
 use Rattle.std.proofs.lemmas.Option.{slice_get_within, slice_get-get_or, get_or_from_slice_get}
-use Rattle.netlist.proofs.Gates.{Stands, Stands-from_gate_of, fanin-of_gate, gate_of-at}
+use Rattle.netlist.proofs.Gates.{Stands-from_gate_of, fanin-of_gate, gate_of-at}
 use Rattle.netlist.proofs.Topological.{topological-complete}
 use Rattle.netlist.proofs.Reach.{topological-is_gate}
 use Rattle.netlist.proofs.Waits.{get_or-any, Contains-get_or}
@@ -14,10 +13,10 @@ use Rattle.std.proofs.lemmas.List.Elements.{All-get_or}
 use Rattle.netlist.specs.Limits.{IsSizedGate}
 use Rattle.netlist.specs.Nets.{IsSound}
 use Rattle.netlist.proofs.Members.{Contains-head}
-use Rattle.netlist.specs.Circuit.{Circuit, Gate, IsGate, input_count, net_count, gate_of, fanin}
+use Rattle.netlist.specs.Circuit.{Circuit, Gate, IsGate, input_count, net_count, gate_of}
 use Rattle.netlist.specs.Order.{IsInput, IsAccepted, IsTopologicalOrder, topological}
 use Rattle.netlist.specs.Truth.{truth}
-use Rattle.netlist.specs.Valuation.{bit_of, gate_value, IsValuation}
+use Rattle.netlist.specs.Valuation.{bit_of, gate_value}
 
 -- what is settled once the first places of the order have come
 pub record SettledTo (c : Circuit) (order : List ℕ) (before values : List Bool) (places : ℕ) : Type 0 where

@@ -1,6 +1,6 @@
 -- Counts of nets in lists, and sets of nets.
-use Rattle.std.specs.Prelude.{◌≡◌, ◌≢◌, ℕ, zero, suc, replicate, ◌+◌, ◌-◌, ◌<◌, ◌≤◌, ◌==◌, ◌⊎◌, Bool, true, false, cond, not, ◌&&◌, ◌||◌, List, [], ◌∷◌, ◌++◌, length, take, drop, nat_eq, nat_lt, count_by, filter, get_or, Contains, if◌then◌else◌, refl}
-use Rattle.std.specs.BTreeSet.{BTreeSet, contains, Updates, IsUnchanged}
+use Rattle.std.specs.Prelude.{◌≡◌, ◌≢◌, ℕ, zero, suc, replicate, ◌+◌, ◌-◌, ◌<◌, ◌≤◌, ◌==◌, ◌⊎◌, Bool, true, false, cond, ◌&&◌, ◌||◌, List, [], ◌∷◌, ◌++◌, length, take, drop, nat_eq, nat_lt, filter, get_or, Contains, if◌then◌else◌, refl}
+use Rattle.std.specs.BTreeSet.{BTreeSet, contains, Updates}
 use Rattle.std.specs.BTreeMap.{is_at}
 use Rattle.std.specs.Cmp.{eq_by_cmp_equiv}
 use Rattle.std.specs.Option.{option_map_or}
@@ -8,7 +8,7 @@ use Rattle.std.specs.Ordering.{nat_cmp}
 use Rattle.std.specs.declared.alloc.Global.{Global}
 use Rattle.std.specs.declared.vec.Vec.{Vec}
 use Rattle.std.proofs.Common.{sym, eqb-true, ◌∙◌, ap, subst, inl, inr, ⊎_elim, arith, slice_set}
-use Rattle.std.proofs.lemmas.Bool.{cases_Bool, both_ways, cond-true, cond-false, ne_eqb, eq-eqb, lt-ltb, le-ltb, cases_eq, cases_lt, false_from_ne_true, false≢true}
+use Rattle.std.proofs.lemmas.Bool.{cases_Bool, both_ways, cond-true, cond-false, ne_eqb, eq-eqb, lt-ltb, le-ltb, cases_eq, cases_lt, false_from_ne_true}
 use Rattle.std.proofs.lemmas.Cmp.{nat_cmp_total}
 use Rattle.std.proofs.lemmas.List.{get_or-set_same, get_or-set_other, length-set, take_more}
 use Rattle.std.proofs.lemmas.List.Elements.{filter-append}
@@ -129,8 +129,15 @@ ready_more w readers i first before after z low within some is_z kept more net =
 pub list_at-is : (lists : List (Vec ℕ Global)) (net : ℕ) (d : Vec ℕ Global) → net < length lists → list_at lists net ≡ (get_or lists net d).items
 list_at-is lists net d low = ap (λ o. option_map_or (λ list. list.items) o []) (slice_get-get_or lists net d low)
 
+pub list_at-past : (lists : List (Vec ℕ Global)) (net : ℕ) → length lists ≤ net → list_at lists net ≡ []
+list_at-past lists net past = ap (λ o. option_map_or (λ (list : Vec ℕ Global). list.items) o []) (slice_get_past lists net past)
+
+-- a list that was read at its net
+pub nets-list_at : (lists : List (Vec ℕ Global)) (net : ℕ) (list : Vec ℕ Global) (nets : List ℕ) → net < length lists → list ≡ get_or lists net list → nets ≡ list.items → nets ≡ list_at lists net
+nets-list_at lists net list nets low is same = same ∙ sym (list_at-is lists net list low ∙ ap (λ (v : Vec ℕ Global). v.items) (sym is))
+
 -- a list after one reader more
-count_of_push : (xs : List ℕ) (y other : ℕ) → count_of (xs ++ y ∷ []) other ≡ count_of xs other + (if nat_eq other y then 1 else 0)
+pub count_of_push : (xs : List ℕ) (y other : ℕ) → count_of (xs ++ y ∷ []) other ≡ count_of xs other + (if nat_eq other y then 1 else 0)
 count_of_push xs y other =
     let e : count_of (xs ++ y ∷ []) other ≡ count_of xs other + count_of (y ∷ []) other = count_of-append xs (y ∷ []) other in
     omega (arith, e)
@@ -224,8 +231,7 @@ Contains-get_or xs k d low = (k, low, get_or_from_slice_get xs k (get_or xs k d)
 pub reader_counts : (c : Circuit) (readers : List (Vec ℕ Global)) (net : ℕ) (list : Vec ℕ Global) (nets : List ℕ) → CountsReaders c readers → length readers ≡ net_count c → net < net_count c → list ≡ get_or readers net list → nets ≡ list.items
     → (y : ℕ) → count_of nets y ≡ count_of (fanin c y) net
 reader_counts c readers net list nets counts long low is same y =
-    let e : list_at readers net ≡ list.items = list_at-is readers net list (omega (arith, low, long)) ∙ ap (λ (v : Vec ℕ Global). v.items) (sym is) in
-    ap (λ xs. count_of xs y) (same ∙ sym e) ∙ counts net y low
+    ap (λ xs. count_of xs y) (nets-list_at readers net list nets (omega (arith, low, long)) is same) ∙ counts net y low
 
 pub zeros_at : (n i : ℕ) → get_or (replicate n false) i false ≡ false
 zeros_at zero i = refl

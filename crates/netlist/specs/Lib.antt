@@ -7,6 +7,7 @@ pub mod Finish
 pub mod Finishing
 pub mod Kept
 pub mod Laws
+pub mod Leads
 pub mod Limits
 pub mod Maker
 pub mod Names
@@ -14,6 +15,7 @@ pub mod Netlist
 pub mod Nets
 pub mod Order
 pub mod Polynomial
+pub mod Postorder
 pub mod Source
 pub mod Truth
 pub mod Valuation

@@ -49,7 +49,11 @@ pub(crate) fn reached_from(
 }
 
 /// Marks the nets. Those that had no mark are put at the end of the unvisited ones.
-fn mark_all(marks: &mut [bool], unvisited: &mut Vec<u32>, nets: &[u32]) -> Result<(), AllocError>
+pub(crate) fn mark_all(
+    marks: &mut [bool],
+    unvisited: &mut Vec<u32>,
+    nets: &[u32],
+) -> Result<(), AllocError>
     requires { All (λ net. net < length marks.old) nets.now }
     ensures marks { OnOk result ((net : ℕ) → net < length marks.old → bit_of marks.new net ≡ (bit_of marks.old net || is_among nets.now net)) }
     ensures unvisited { OnOk result ((net : ℕ) → is_among unvisited.new.items net ≡ (is_among unvisited.old.items net || (is_among nets.now net && not (bit_of marks.old net)))) }

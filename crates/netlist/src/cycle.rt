@@ -1,12 +1,12 @@
-ghost use Rattle.std.specs.Prelude.{◌≡◌, ◌<◌, length, map, IfOk};
+ghost use Rattle.std.specs.Prelude.{◌≡◌, ℕ, ◌<◌, not, length, map, IfOk};
 ghost use Rattle.netlist.specs.Circuit.{net_count};
 ghost use Rattle.netlist.specs.Finish.{is_on_cycle};
 ghost use Rattle.netlist.specs.Finishing.{cycle_call};
 ghost use Rattle.netlist.specs.Maker.{gate_kept};
-ghost use Rattle.netlist.specs.Nets.{IsSound};
 ghost use Rattle.netlist.specs.Order.{topological};
+ghost use Rattle.netlist.specs.Valuation.{bit_of};
 
-use crate::cone::reached_from;
+use crate::components::off_cycles;
 use crate::draft::DraftGate;
 use crate::finish::earliest;
 use crate::nets::Nets;
@@ -29,26 +29,28 @@ pub(crate) fn cycle_of(
     first_cycle(alloc, nets, gates)
 }
 
-/// The first call whose gate reaches itself. This takes a walk for each gate, and is looked for only
-/// where the order shows that there is a cycle.
+/// The first call whose gate reaches itself, found in time that grows with the number of gate inputs.
 fn first_cycle(alloc: Global, nets: &Nets, gates: &[DraftGate]) -> Result<Option<u32>, AllocError>
     requires { length gates.now ≡ length nets.now.gates }
     ensures { IfOk result (λ first. first ≡ cycle_call nets.now (map gate_kept gates.now)) }
 {
+    let alone = off_cycles(alloc, nets)?;
+    Ok(first_on_cycle(nets, gates, &alone))
+}
+
+/// The first call whose gate is not marked as off cycles.
+fn first_on_cycle(nets: &Nets, gates: &[DraftGate], alone: &[bool]) -> Option<u32>
+    requires lines { length gates.now ≡ length nets.now.gates }
+    requires length { length alone.now ≡ net_count nets.now }
+    requires marks { (net : ℕ) → net < net_count nets.now → bit_of alone.now net ≡ not (is_on_cycle nets.now net) }
+    ensures { result ≡ cycle_call nets.now (map gate_kept gates.now) }
+{
+    let inputs = nets.inputs() as usize;
     let mut first = None;
     for (place, gate) in gates.iter().enumerate() {
-        if reaches_itself(alloc, nets, nets.inputs() + place as u32)? {
+        if !alone[inputs + place] {
             first = earliest(first, Some(gate.call));
         }
     }
-    Ok(first)
-}
-
-fn reaches_itself(alloc: Global, nets: &Nets, net: u32) -> Result<bool, AllocError>
-    requires sound { IsSound nets.now }
-    requires net { net < net_count nets.now }
-    ensures { IfOk result (λ reaches. reaches ≡ is_on_cycle nets.now net) }
-{
-    let marks = reached_from(alloc, nets, nets.fanin(net))?;
-    Ok(marks[net as usize])
+    first
 }

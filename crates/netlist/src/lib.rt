@@ -1,4 +1,5 @@
-//! Combinational netlists: nets, gates, and what the values of the nets are. Nets are numbered with the inputs first, in order, and then the gates, in order.
+//! Combinational netlists: nets, gates, and what the values of the nets are. Nets are numbered with the
+//! inputs first, in order, and then the gates, in order.
 //!
 //! - `NetlistMaker` takes inputs, gates and outputs by name, and `finish` makes a `Netlist` of them;
 //! - `Netlist` is read by number and by name, and gives orders, cones and values;
@@ -8,6 +9,7 @@
 //! and `Cone` (which gates come first, and which ones some nets need), `Polynomial` (gates over ℤ).
 #![tactic(auto)]
 
+mod components;
 mod cone;
 mod cycle;
 mod draft;
@@ -19,6 +21,7 @@ mod maker;
 mod netlist;
 mod nets;
 mod order;
+mod postorder;
 mod source;
 #[cfg(test)]
 mod tests;

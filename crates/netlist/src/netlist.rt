@@ -1,14 +1,14 @@
-ghost use Rattle.std.specs.Prelude.{◌≡◌, ◌<◌, length, All, IfOk, OnOk, OnErr, Some};
+ghost use Rattle.std.specs.Prelude.{◌≡◌, ℕ, ◌<◌, length, All, IfOk, OnOk, OnErr, Some};
 ghost use Rattle.std.specs.HashMap.{get_by_text};
 ghost use Rattle.netlist.specs.Circuit.{IsGate, input_count, net_count, gate_of, name_of};
-ghost use Rattle.netlist.specs.Cone.{cone};
+ghost use Rattle.netlist.specs.Cone.{cone, is_in_cone};
 ghost use Rattle.netlist.specs.Names.{net_of};
 ghost use Rattle.netlist.specs.Netlist.{IsOrdered};
 ghost use Rattle.netlist.specs.Nets.{IsSound};
 ghost use Rattle.netlist.specs.Order.{IsAccepted, topological};
-ghost use Rattle.netlist.specs.Valuation.{valuation};
+ghost use Rattle.netlist.specs.Valuation.{bit_of, valuation};
 
-use crate::cone::cone_of;
+use crate::cone::{cone_of, reached_from};
 use crate::gate_word::GateWord;
 use crate::nets::Nets;
 use crate::source::Source;
@@ -113,6 +113,15 @@ impl Netlist {
         ensures { IfOk result (λ gates. gates.items ≡ cone self.now nets.now) }
     {
         cone_of(*self.order.allocator(), &self.nets, &self.order, nets)
+    }
+
+    /// For each net, by number, whether it is among the nets or one of them is computed from it.
+    pub fn reached(&self, nets: &[u32]) -> Result<Vec<bool>, AllocError>
+        requires { All (λ net. net < net_count self.now) nets.now }
+        ensures length { IfOk result (λ marks. length marks.items ≡ net_count self.now) }
+        ensures marks { IfOk result (λ marks. (net : ℕ) → net < net_count self.now → bit_of marks.items net ≡ is_in_cone self.now nets.now net) }
+    {
+        reached_from(*self.order.allocator(), &self.nets, nets)
     }
 
     /// Makes `nets` the value of each net at the bits of the inputs.

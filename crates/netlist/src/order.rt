@@ -27,7 +27,7 @@ pub(crate) fn order_of(alloc: Global, nets: &Nets) -> Result<Vec<u32>, AllocErro
 }
 
 /// For each net the gates that read it, once for each of their inputs that does.
-fn readers_of(alloc: Global, nets: &Nets) -> Result<Vec<Vec<u32>>, AllocError>
+pub(crate) fn readers_of(alloc: Global, nets: &Nets) -> Result<Vec<Vec<u32>>, AllocError>
     ensures length { IfOk result (λ readers. length readers.items ≡ net_count nets.now) }
     ensures counts { IfOk result (λ readers. CountsReaders nets.now readers.items) }
 {

@@ -17,6 +17,12 @@ fn cone_of(netlist: &Netlist, net: u32) -> Result<Vec<u32>, AllocError>
     netlist.cone(&[net])
 }
 
+fn reached_from(netlist: &Netlist, net: u32) -> Result<Vec<bool>, AllocError>
+    requires { net < net_count netlist.now }
+{
+    netlist.reached(&[net])
+}
+
 #[test]
 fn half_adder_is_made_and_read(rt: HostRuntime) -> Result<(), Fail> {
     let mut maker = NetlistMaker::new(rt.alloc());
@@ -35,6 +41,8 @@ fn half_adder_is_made_and_read(rt: HostRuntime) -> Result<(), Fail> {
     assert!(rt; netlist.topological() == [2, 3].as_slice());
     let cone = cone_of(&netlist, 3)?;
     assert!(rt; cone.as_slice() == [3].as_slice());
+    let reached = reached_from(&netlist, 3)?;
+    assert!(rt; reached.as_slice() == [true, true, false, true].as_slice());
 
     let mut bits = Assign::new(rt.alloc(), 2)?;
     bits.set(0, true);

@@ -1,11 +1,9 @@
-use Rattle.std.proofs.Common.{◌≡◌, ◌<◌, ◌∙◌, ℕ, Bool, true, false, sym, ap, subst, length, arith, slice_index, List, [], ◌∷◌, ◌++◌, filter, take, if◌then◌else◌, append_assoc, refl}
-use Rattle.std.proofs.lemmas.Bool.{cond-true, cond-false}
+use Rattle.std.proofs.Common.{◌≡◌, ◌<◌, ◌∙◌, ℕ, false, sym, ap, arith, slice_index, [], ◌∷◌, ◌++◌}
 use Rattle.std.proofs.lemmas.List.{append-nil}
 use Rattle.netlist.proofs.Reach.{topological-is_gate}
 use Rattle.netlist.proofs.Waits.{filter_more, get_or-any}
 use Rattle.netlist.specs.Circuit.{net_count}
 use Rattle.netlist.specs.Cone.{is_in_cone}
-use Rattle.netlist.specs.Valuation.{bit_of}
 use Rattle.netlist.proofs.cone.cone_of.Goals.{then-index+in_ok-push, else-index}
 use Rattle.netlist.proofs.cone.cone_of.Goals as goal
 

@@ -1,9 +1,11 @@
-use Rattle.std.proofs.Common.{◌≡◌, ℕ, ◌<◌, ◌≤◌, Bool, true, false, not, ◌&&◌, ◌||◌, [], ◌∷◌, ◌++◌, ◌∙◌, sym, ap, subst, length, arith, List, Contains, replicate, refl}
+use Rattle.std.proofs.Common.{◌≡◌, ◌<◌, false, ◌||◌, ◌∙◌, sym, ap, length, Contains, replicate, refl}
 use Rattle.std.proofs.lemmas.List.{length-replicate, nil_from_length}
 use Rattle.std.proofs.lemmas.List.Elements.{All-contains}
-use Rattle.netlist.proofs.Reach.{Walk, walk_first, walk_more, marks-cone, net-marked}
+use Rattle.netlist.proofs.Marking.{walk_more}
+use Rattle.netlist.proofs.Reach.{cone_begins, reached_onwards, marks-cone}
 use Rattle.netlist.proofs.Waits.{refilled, Contains-get_or, zeros_at}
 use Rattle.netlist.specs.Circuit.{net_count, fanin}
+use Rattle.netlist.specs.Cone.{IsReachedFrom}
 use Rattle.netlist.specs.Order.{is_among}
 use Rattle.netlist.specs.Valuation.{bit_of}
 use Rattle.netlist.proofs.cone.reached_from.Goals as goal
@@ -15,7 +17,7 @@ loop-net-init c =
     let zeros : c.in_ok-marks.marks.items ≡ replicate c.count-count.result false = c.in_ok-marks.ensures.items_if_clones_equal (λ bit e. e) in
     let many : length c.in_ok-marks.marks.items ≡ net_count c.args.nets.now = ap length zeros ∙ (length-replicate c.count-count.result false ∙ c.count-count.ensures.count) in
     rw (refilled c.mark_all.new.marks c.in_ok-marks.marks.items c.in_ok-marks.marks.len (c.in_ok-marks.marks.ok.0 ∙ sym same))
-    (walk_first c.args.nets.now c.args.from.now (λ net has. All-contains (λ n. n < net_count c.args.nets.now) c.args.from.now net c.requires has) c.in_ok-marks.marks.items c.mark_all.new.marks c.mark_all.new.unvisited.items
+    (cone_begins c.args.nets.now c.args.from.now c.count-count.ensures.sound.inputs (λ net has. All-contains (λ n. n < net_count c.args.nets.now) c.args.from.now net c.requires has) c.in_ok-marks.marks.items c.mark_all.new.marks c.mark_all.new.unvisited.items
     (same ∙ many)
     (λ net. ap (λ bits. bit_of bits net) zeros ∙ zeros_at c.count-count.result net)
     (λ net low. c.in_ok-mark_all.ensures.marks net (rw (before, many) low) ∙ ap (λ bits. bit_of bits net || is_among c.args.from.now net) before)
@@ -26,14 +28,14 @@ mark_all-requires-in-Some c = λ k d low.
     rw (c.deref_mut-in-Some.ensures.value, c.loop-net.invariant.long) (c.count-count.ensures.sound.inputs c.in-Some.net _ (rw (← c.fanin.ensures) (Contains-get_or c.fanin.result.now k d low)))
 
 pub returns-clause-marks : goal.returns-clause-marks
-returns-clause-marks c = marks-cone c.args.nets.now c.args.from.now c.count-count.ensures.sound.inputs c.loop-net.marks.items c.loop-net.unvisited.items c.loop-net.invariant (nil_from_length c.loop-net.unvisited.items (sym c.loop-net.unvisited.ok.0 ∙ c.in_default.ensures.cases.0)) (λ net has. All-contains (λ n. n < net_count c.args.nets.now) c.args.from.now net c.requires has)
+returns-clause-marks c = marks-cone c.args.nets.now c.args.from.now c.count-count.ensures.sound.inputs (λ net has. All-contains (λ n. n < net_count c.args.nets.now) c.args.from.now net c.requires has) c.loop-net.marks.items c.loop-net.unvisited.items c.loop-net.invariant (nil_from_length c.loop-net.unvisited.items (sym c.loop-net.unvisited.ok.0 ∙ c.in_default.ensures.cases.0))
 
 pub loop-net-preserved : goal.loop-net-preserved
 loop-net-preserved c =
     let before : c.deref_mut-in-Some.result.now ≡ c.loop-net.marks.items = c.deref_mut-in-Some.ensures.value in
     let same : length c.mark_all-in-Some.new.marks ≡ length c.loop-net.marks.items = c.mark_all-in-Some.auto.marks ∙ ap length before in
     rw (refilled c.mark_all-in-Some.new.marks c.loop-net.marks.items c.loop-net.marks.len (c.loop-net.marks.ok.0 ∙ sym same))
-    (walk_more c.args.nets.now c.args.from.now c.count-count.ensures.sound.inputs c.loop-net.marks.items c.loop-net.unvisited.items c.loop-net.invariant c.pop.new.self.items c.in-Some.net c.in-Some.ensures.items c.mark_all-in-Some.new.marks c.mark_all-in-Some.new.unvisited.items
+    (walk_more (fanin c.args.nets.now) (Contains c.args.from.now) (IsReachedFrom c.args.nets.now c.args.from.now) (net_count c.args.nets.now) c.count-count.ensures.sound.inputs c.loop-net.marks.items c.loop-net.unvisited.items c.loop-net.invariant (reached_onwards c.args.nets.now c.args.from.now) c.pop.new.self.items c.in-Some.net c.in-Some.ensures.items c.mark_all-in-Some.new.marks c.mark_all-in-Some.new.unvisited.items
     (same ∙ c.loop-net.invariant.long)
     (λ y low. c.in_ok-mark_all-2.ensures.marks y (rw (before, c.loop-net.invariant.long) low) ∙ rw (before, c.fanin.ensures) refl)
     (λ y. c.in_ok-mark_all-2.ensures.unvisited y ∙ rw (before, c.fanin.ensures) refl))

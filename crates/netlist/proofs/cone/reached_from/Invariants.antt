@@ -1,9 +1,9 @@
 use Rattle.std.proofs.Common.{◌+◌, not, count_by, length}
-use Rattle.netlist.proofs.Reach.{Walk}
+use Rattle.netlist.proofs.Reach.{ConeWalk}
 use Rattle.netlist.proofs.cone.reached_from.Given as goal
 
 abbrev pub invariant-loop-net : goal.invariant-loop-net
-invariant-loop-net l = Walk l.nets l.from l.marks.items l.unvisited.items
+invariant-loop-net l = ConeWalk l.nets l.from l.marks.items l.unvisited.items
 
 -- each visit takes one from these, and a mark moves one
 abbrev pub decreases-loop-net : goal.decreases-loop-net

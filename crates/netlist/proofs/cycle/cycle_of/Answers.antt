@@ -1,4 +1,4 @@
-use Rattle.std.proofs.Common.{◌≡◌, ◌∙◌, sym, ap, length, map}
+use Rattle.std.proofs.Common.{◌∙◌, sym, ap, length, map}
 use Rattle.netlist.proofs.Cycles.{none-from_full}
 use Rattle.netlist.specs.Maker.{gate_kept}
 use Rattle.netlist.proofs.cycle.cycle_of.Goals as goal

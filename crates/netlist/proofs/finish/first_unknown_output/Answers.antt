@@ -1,4 +1,4 @@
-use Rattle.std.proofs.Common.{◌≡◌, ◌∙◌, true, false, not, sym, ap, is_some, Some, None, refl, Option, ℕ}
+use Rattle.std.proofs.Common.{◌≡◌, ◌∙◌, true, false, not, sym, ap, Some, refl}
 use Rattle.std.specs.HashMap.{get_by_text}
 use Rattle.netlist.proofs.Calls.{calls_more, earliest-none}
 use Rattle.netlist.specs.Draft.{OutputLine}

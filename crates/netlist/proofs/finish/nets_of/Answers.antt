@@ -1,7 +1,6 @@
-use Rattle.std.proofs.Common.{◌≡◌, ◌∙◌, sym, ap, subst, length, map, string_bytes, List, ℕ}
+use Rattle.std.proofs.Common.{◌≡◌, ◌∙◌, sym, ap, subst, length, map, string_bytes}
 use Rattle.std.specs.HashMap.{get_by_text}
 use Rattle.netlist.proofs.Vecs.{vec_len-map}
-use Rattle.netlist.specs.Circuit.{Circuit, Gate}
 use Rattle.netlist.specs.Draft.{OutputLine}
 use Rattle.netlist.specs.Finishing.{circuit_in, number_in, numbered_in}
 use Rattle.netlist.specs.Kept.{circuit_kept, net_gate_kept}

@@ -1,4 +1,4 @@
-use Rattle.std.proofs.Common.{◌≡◌, ◌∙◌, true, false, not, sym, string_bytes, refl}
+use Rattle.std.proofs.Common.{◌≡◌, true, false, sym, string_bytes, refl}
 use Rattle.std.specs.HashMap.{get_by_text}
 use Rattle.netlist.proofs.Calls.{none_more, some_passes}
 use Rattle.netlist.specs.Finishing.{is_unknown}

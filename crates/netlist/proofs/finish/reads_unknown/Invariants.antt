@@ -1,10 +1,7 @@
-use Rattle.std.proofs.Common.{◌≡◌, ℕ, true, false, map, filter, take, string_bytes}
+use Rattle.std.proofs.Common.{◌≡◌, false, map, take, string_bytes}
 use Rattle.std.specs.HashMap.{get_by_text}
 use Rattle.std.specs.List.{list_any}
-use Rattle.netlist.specs.Finish.{least}
-use Rattle.netlist.specs.Finishing.{is_unknown, number_in, numbered_in}
-use Rattle.netlist.specs.Kept.{net_gate_kept}
-use Rattle.netlist.specs.Maker.{gate_kept, output_kept}
+use Rattle.netlist.specs.Finishing.{is_unknown}
 use Rattle.netlist.proofs.finish.reads_unknown.Given as goal
 
 abbrev pub invariant-loop-input : goal.invariant-loop-input

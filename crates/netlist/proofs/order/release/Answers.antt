@@ -1,4 +1,4 @@
-use Rattle.std.proofs.Common.{◌≡◌, ◌==◌, ℕ, ◌-◌, ◌<◌, ◌≤◌, length, true, false, slice_index, slice_set, refl, sym, ◌∙◌, cond, ◌&&◌, nat_eq}
+use Rattle.std.proofs.Common.{◌<◌, length, true, false, slice_index, refl, sym}
 use Rattle.std.proofs.lemmas.Bool.{eq-eqb, ne_eqb}
 use Rattle.std.specs.BTreeSet.{contains}
 use Rattle.std.specs.Ordering.{nat_cmp}

@@ -1,7 +1,5 @@
-use Rattle.std.proofs.Common.{◌≡◌, ◌<◌, ◌∙◌, ℕ, sym, ap, subst, length, arith, slice_index}
 use Rattle.netlist.proofs.Reach.{topological-is_gate}
-use Rattle.netlist.proofs.Settled.{SettledTo, settled_more, settled-gates, gate-sized, gate-reads_nets}
-use Rattle.netlist.specs.Circuit.{IsGate, net_count}
+use Rattle.netlist.proofs.Settled.{settled_more, settled-gates, gate-sized, gate-reads_nets}
 use Rattle.netlist.proofs.values.settle.Goals as goal
 
 pub gate-word-requires : goal.gate-word-requires

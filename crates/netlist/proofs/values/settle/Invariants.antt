@@ -1,4 +1,3 @@
-use Rattle.std.proofs.Common.{◌≡◌, ℕ, ◌<◌, length, Some, slice_get, take}
 use Rattle.netlist.proofs.Settled.{SettledTo}
 use Rattle.netlist.proofs.values.settle.Given as goal
 

@@ -1,7 +1,6 @@
-use Rattle.std.proofs.Common.{◌≡◌, ◌<◌, ◌+◌, ◌∙◌, ℕ, sym, ap, subst, length, map, arith, Some, None, List, Option}
+use Rattle.std.proofs.Common.{◌≡◌, ◌∙◌, sym, ap, length, map, arith, Some, None}
 use Rattle.std.proofs.lemmas.List.{length-map}
 use Rattle.std.specs.HashMap.{get_by_text}
-use Rattle.std.specs.Option.{option_map}
 use Rattle.netlist.proofs.Sources.{place_of-found, found-within}
 use Rattle.netlist.specs.Circuit.{Circuit, Gate}
 use Rattle.netlist.specs.Names.{net_of}

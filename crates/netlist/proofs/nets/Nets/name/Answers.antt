@@ -1,4 +1,4 @@
-use Rattle.std.proofs.Common.{◌≡◌, ◌<◌, ◌∙◌, subst, sym}
+use Rattle.std.proofs.Common.{◌<◌, ◌∙◌, subst, sym}
 use Rattle.netlist.proofs.Kept.{name_of-gate}
 use Rattle.netlist.specs.Circuit.{net_count}
 use Rattle.netlist.proofs.nets.Nets.name.Goals as goal
