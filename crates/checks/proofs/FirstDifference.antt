@@ -15,14 +15,14 @@ use Rattle.checks.specs.Laws.{FirstDifferenceFound, WalkFindsFirst}
 use Rattle.checks.specs.Work.{walk_bits}
 
 -- ---- the same table
-same_table-same : (t u : Table) → same_table t u ≡ true → t ≡ u
+pub same_table-same : (t u : Table) → same_table t u ≡ true → t ≡ u
 same_table-same (entry x) (entry y) h = ap entry (int_eq-same x y h)
 same_table-same (halves a b) (halves c d) h =
     both_halves (same_table-same a c (and_left _ _ h)) (same_table-same b d (and_right (same_table a c) _ h))
 same_table-same (entry x) (halves c d) h = cc
 same_table-same (halves a b) (entry y) h = cc
 
-same_table-refl : (t : Table) → same_table t t ≡ true
+pub same_table-refl : (t : Table) → same_table t t ≡ true
 same_table-refl (entry x) = int_eq-refl x
 same_table-refl (halves a b) = both_true _ _ (same_table-refl a) (same_table-refl b)
 

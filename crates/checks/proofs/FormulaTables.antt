@@ -3,10 +3,10 @@ use Rattle.std.specs.Prelude.{neg_ℤ, ◌+ℤ◌, ◌-ℤ◌, ◌*ℤ◌, lengt
 use Rattle.std.proofs.Common.{sym}
 use Rattle.netlist.specs.Polynomial.{number_of}
 use Rattle.netlist.specs.Valuation.{bit_of}
+use Rattle.spec_lang.specs.Placed.{net_values}
 use Rattle.spec_lang.specs.Value.{value}
 use Rattle.checks.proofs.Tabulated.{IsOver-tabulate, each-tabulate, zip_with-tabulate}
 use Rattle.checks.specs.Laws.{FormulaTables, SidesAreOver}
-use Rattle.checks.specs.Sides.{net_values}
 
 pub sides_are_over : SidesAreOver
 sides_are_over = record {

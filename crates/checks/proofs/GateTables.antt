@@ -2,20 +2,16 @@
 use Rattle.std.specs.Prelude.{◌≡◌, ℕ, ◌<◌, Bool, List, [], ◌∷◌, map, length, Some, refl}
 use Rattle.std.proofs.Common.{sym, ◌∙◌, ap, arith}
 use Rattle.std.proofs.lemmas.List.{length-map}
-use Rattle.std.proofs.lemmas.List.FromFn.{length-map-range_with_len}
 use Rattle.netlist.proofs.Polynomials.{polynomial-is_truth}
 use Rattle.netlist.proofs.Rounds.{IsValuation-valuation}
 use Rattle.netlist.specs.Circuit.{Circuit, Gate, input_count, gate_of}
 use Rattle.netlist.specs.Order.{IsAccepted}
 use Rattle.netlist.specs.Polynomial.{number_of, polynomial}
 use Rattle.netlist.specs.Valuation.{bit_of, IsValuation, valuation}
+use Rattle.spec_lang.proofs.Placed.{length-placed}
+use Rattle.spec_lang.specs.Placed.{placed, net_values}
 use Rattle.checks.proofs.Tabulated.{tabulate-same, gate-tabulate}
 use Rattle.checks.specs.Laws.{GateTables}
-use Rattle.checks.specs.Sides.{place_in, placed, net_values}
-
--- as many bits are placed as there are numbers
-pub length-placed : (count : ℕ) (listed : List ℕ) (bits : List Bool) → length (placed count listed bits) ≡ count
-length-placed count listed bits = length-map-range_with_len (λ n. bit_of bits (place_in listed n)) 0 count
 
 map_twice : (f : ℕ → Bool) (nets : List ℕ) → map number_of (map f nets) ≡ map (λ net. number_of (f net)) nets
 map_twice f [] = refl

@@ -6,12 +6,13 @@ use Rattle.std.proofs.lemmas.List.FromFn.{get_or-map-range_with_len}
 use Rattle.netlist.specs.Circuit.{Circuit, input_count}
 use Rattle.netlist.specs.Polynomial.{number_of}
 use Rattle.netlist.specs.Valuation.{bit_of, gate_value, after_rounds}
+use Rattle.spec_lang.proofs.Placed.{length-placed}
+use Rattle.spec_lang.specs.Placed.{place_in, placed, net_values}
 use Rattle.tables.proofs.TableLaws.{both_halves}
 use Rattle.tables.specs.Table.{tabulate}
-use Rattle.checks.proofs.GateTables.{length-placed}
 use Rattle.checks.proofs.Tabulated.{tabulate-same}
 use Rattle.checks.specs.Laws.{InputTables}
-use Rattle.checks.specs.Sides.{place_in, placed, net_values, input_table}
+use Rattle.checks.specs.Sides.{input_table}
 
 -- after any rounds an input has its bit
 input_at_bit : (c : Circuit) (bits : List Bool) (net rounds : ℕ) → length bits ≡ input_count c → net < input_count c →

@@ -5,7 +5,8 @@ use Rattle.netlist.specs.Polynomial.{negation, is_negated, step, polynomial}
 use Rattle.netlist.specs.declared.gate_word.GateWord.{GateWord}
 use Rattle.tables.proofs.TableLaws.{both_halves}
 use Rattle.tables.specs.Table.{Table, entry, IsOver, each, zip_with, minus, tabulate}
-use Rattle.checks.specs.Work.{like, fold_table, gate_table}
+use Rattle.tables.specs.Pieces.{like}
+use Rattle.checks.specs.Work.{fold_table, gate_table}
 
 -- functions that agree at as many bits as there are levels have one table
 pub tabulate-same : (n : ℕ) (f g : List Bool → ℤ) → ((bits : List Bool) → length bits ≡ n → f bits ≡ g bits) → tabulate n f ≡ tabulate n g

@@ -7,12 +7,12 @@ use Rattle.std.proofs.lemmas.Int.{ints}
 use Rattle.std.proofs.lemmas.List.Sums.{fold-append}
 use Rattle.netlist.specs.Polynomial.{number_of}
 use Rattle.netlist.specs.Valuation.{bit_of}
+use Rattle.spec_lang.specs.Placed.{net_values}
 use Rattle.spec_lang.specs.Value.{digit_of, word_value, nets_of}
 use Rattle.tables.proofs.TableLaws.{each-identity}
 use Rattle.tables.specs.Table.{Table, plus, multiple, tabulate}
 use Rattle.checks.proofs.Tabulated.{tabulate-same, each-tabulate, zip_with-tabulate}
 use Rattle.checks.specs.Laws.{WordTables}
-use Rattle.checks.specs.Sides.{net_values}
 use Rattle.checks.specs.Work.{multiples, sums_from, partial_sums, sum_table, word_table}
 
 -- ---- multiples

@@ -8,6 +8,7 @@ use Rattle.netlist.specs.Polynomial.{number_of}
 use Rattle.netlist.specs.Valuation.{bit_of}
 use Rattle.spec_lang.specs.Formula.{Formula}
 use Rattle.spec_lang.specs.Named.{words_named, nets_named, nets_of_side}
+use Rattle.spec_lang.specs.Placed.{place_in, placed}
 use Rattle.spec_lang.specs.Specification.{Check, Specification}
 use Rattle.spec_lang.specs.Value.{value, nets_of}
 use Rattle.tables.specs.Table.{Table, plus, minus, times, part0, part1, tabulate}
@@ -15,8 +16,8 @@ use Rattle.word_base.specs.Kind.{usual_letter}
 use Rattle.word_base.specs.declared.decomp.Decomp.{Decomp}
 use Rattle.word_base.specs.declared.decomp.Decomp.TheVariants.{S}
 use Rattle.word_base.specs.declared.kind_name.KindName.{KindName}
-use Rattle.checks.specs.Sides.{place_in, placed}
-use Rattle.checks.specs.Work.{Piece, pieces, add_work, sub_work, mul_work, gate_table, gate_work, word_work}
+use Rattle.tables.specs.Pieces.{Piece, pieces, add_work, sub_work, mul_work}
+use Rattle.checks.specs.Work.{gate_table, gate_work, word_work}
 use Rattle.checks.specs.FormulaWork.{formula_work}
 use Rattle.checks.specs.Forward.{difference_work}
 

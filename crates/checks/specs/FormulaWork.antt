@@ -3,7 +3,7 @@ use Rattle.std.specs.Prelude.{ℕ, List, [], ◌∷◌, ◌++◌}
 use Rattle.spec_lang.specs.Formula.{Formula, number, word, negative, sum, difference, product}
 use Rattle.tables.specs.Table.{Table}
 use Rattle.word_base.specs.declared.decomp.Decomp.{Decomp}
-use Rattle.checks.specs.Work.{Piece, pieces, neg_work, add_work, sub_work, mul_work}
+use Rattle.tables.specs.Pieces.{Piece, pieces, neg_work, add_work, sub_work, mul_work}
 
 -- the operation of each sub-formula, whose tables are given; the list of a word is its own (`word_work`)
 abbrev pub formula_work : List Decomp → ℕ → (Formula → Table) → Formula → List Piece

@@ -4,12 +4,13 @@ use Rattle.std.specs.List.{range_with_len}
 use Rattle.std.specs.Option.{option_map_or}
 use Rattle.netlist.specs.Circuit.{Circuit, input_count, gate_of}
 use Rattle.netlist.specs.Cone.{cone, is_in_cone}
-use Rattle.spec_lang.specs.Named.{words_named, nets_named, each_once}
+use Rattle.spec_lang.specs.Named.{nets_named, words_of_check}
 use Rattle.spec_lang.specs.Specification.{Check, Specification}
 use Rattle.spec_lang.specs.Value.{nets_of}
 use Rattle.tables.specs.Table.{same_table}
 use Rattle.checks.specs.Sides.{net_table, side}
-use Rattle.checks.specs.Work.{Piece, pieces, gate_work, word_work, walk}
+use Rattle.tables.specs.Pieces.{Piece, pieces}
+use Rattle.checks.specs.Work.{gate_work, word_work, walk}
 use Rattle.checks.specs.FormulaWork.{formula_work}
 
 -- the variable of each input in the cone
@@ -36,7 +37,7 @@ abbrev pub forward_work : Circuit → Specification → Check → List Piece
 forward_work c s check =
     input_work c s check
     ++ flat_map (gate_work_of c s) (cone c (nets_named s check))
-    ++ flat_map (word_work_of c s) (each_once (words_named check.left ++ words_named check.right))
+    ++ flat_map (word_work_of c s) (words_of_check check)
     ++ formula_work s.letters 0 (side c s) check.left
     ++ formula_work s.letters 0 (side c s) check.right
     ++ difference_work 0 c s check

@@ -3,11 +3,12 @@ use Rattle.std.specs.Prelude.{◌≡◌, ℕ, ◌+◌, ◌<◌, ◌^◌, ℤ, po
 use Rattle.netlist.specs.Circuit.{Circuit, Gate, input_count, gate_of}
 use Rattle.netlist.specs.Order.{IsAccepted}
 use Rattle.spec_lang.specs.Formula.{Formula, number, word, negative, sum, difference, product}
+use Rattle.spec_lang.specs.Placed.{place_in}
 use Rattle.spec_lang.specs.Specification.{Specification}
 use Rattle.spec_lang.specs.Value.{nets_of}
 use Rattle.tables.specs.Table.{Table, IsOver, plus, minus, times, opposite, multiple, constant_table}
 use Rattle.checks.specs.Answer.{Difference, IsFirstDifference, first_difference}
-use Rattle.checks.specs.Sides.{place_in, net_table, input_table, side}
+use Rattle.checks.specs.Sides.{net_table, input_table, side}
 use Rattle.checks.specs.Work.{gate_table, multiples, partial_sums, word_table, walk_bits}
 use Rattle.word_base.specs.declared.decomp.Decomp.{Decomp}
 

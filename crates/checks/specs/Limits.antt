@@ -3,18 +3,19 @@ use Rattle.std.specs.Prelude.{ℕ, ◌+◌, ◌-◌, ◌*◌, ◌==◌, Bool, tr
 use Rattle.std.specs.List.{list_all}
 use Rattle.std.specs.Option.{option_map_or}
 use Rattle.netlist.specs.Circuit.{Circuit}
+use Rattle.spec_lang.specs.Placed.{net_values}
 use Rattle.spec_lang.specs.Specification.{Check, Specification}
 use Rattle.spec_lang.specs.Value.{all_in_range}
 use Rattle.tables.specs.Tree.{Shape}
 use Rattle.tables.specs.Canonical.{canonical, add_nodes}
 use Rattle.tables.specs.Fits.{fits}
+use Rattle.tables.specs.Pieces.{Piece}
 use Rattle.word_base.specs.declared.decomp.Decomp.{Decomp}
 use Rattle.word_base.specs.declared.kind_name.KindName.{KindName}
 use Rattle.checks.specs.declared.method.Method.{Method}
 use Rattle.checks.specs.declared.method.Method.TheVariants.{Forward, Backward}
-use Rattle.checks.specs.Sides.{net_values, side}
+use Rattle.checks.specs.Sides.{side}
 use Rattle.checks.specs.Answer.{first_difference}
-use Rattle.checks.specs.Work.{Piece}
 use Rattle.checks.specs.Forward.{forward_work}
 use Rattle.checks.specs.Backward.{backward_letters, backward_work}
 

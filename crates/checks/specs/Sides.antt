@@ -1,27 +1,14 @@
 -- The two sides of a check, as tables over the inputs in the order of the specification.
-use Rattle.std.specs.Prelude.{◌≡◌, ℕ, zero, suc, ◌+◌, ◌==◌, pos, Bool, true, false, List, [], ◌∷◌, map, length, if◌then◌else◌, refl}
-use Rattle.std.specs.List.{range_with_len}
-use Rattle.netlist.specs.Circuit.{Circuit, input_count}
+use Rattle.std.specs.Prelude.{◌≡◌, ℕ, zero, suc, pos, [], ◌∷◌, length, refl}
+use Rattle.netlist.specs.Circuit.{Circuit}
 use Rattle.netlist.specs.Circuits.{half}
 use Rattle.netlist.specs.Polynomial.{number_of}
-use Rattle.netlist.specs.Valuation.{bit_of, valuation}
+use Rattle.netlist.specs.Valuation.{bit_of}
 use Rattle.spec_lang.specs.Formula.{Formula}
+use Rattle.spec_lang.specs.Placed.{net_values}
 use Rattle.spec_lang.specs.Specification.{Specification, half_adder, half_adder_check}
 use Rattle.spec_lang.specs.Value.{value}
 use Rattle.tables.specs.Table.{Table, entry, halves, tabulate, entries, constant_table}
-
--- the first place of a number in a list, and the list's length where it has none
-abbrev pub place_in : List ℕ → ℕ → ℕ
-place_in [] n = 0
-place_in (m ∷ ms) n = if m == n then 0 else place_in ms n + 1
-
--- the values of the numbers below count, where the bits are those of the listed ones in order; 0 for the others
-abbrev pub placed : ℕ → List ℕ → List Bool → List Bool
-placed count listed bits = map (λ n. bit_of bits (place_in listed n)) (range_with_len 0 count)
-
--- the values of all nets, where the bits are those of the inputs from the top level down
-abbrev pub net_values : Circuit → Specification → List Bool → List Bool
-net_values c s bits = valuation c (placed (input_count c) s.order bits)
 
 -- the table of a net
 abbrev pub net_table : Circuit → Specification → ℕ → Table
@@ -36,9 +23,6 @@ input_table (suc n) (suc level) = halves (input_table n level) (input_table n le
 -- the table of a formula
 abbrev pub side : Circuit → Specification → Formula → Table
 side c s formula = tabulate (length s.order) (λ bits. value s.words (net_values c s bits) formula)
-
-placed-third : placed 3 (2 ∷ 0 ∷ []) (true ∷ false ∷ []) ≡ false ∷ false ∷ true ∷ []
-placed-third = refl
 
 second-input : entries (input_table 2 1) ≡ pos 0 ∷ pos 1 ∷ pos 0 ∷ pos 1 ∷ []
 second-input = refl

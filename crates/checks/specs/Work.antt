@@ -1,55 +1,12 @@
--- The tables that the operations on diagrams go through. They serve to say when an operation may meet a limit.
-use Rattle.std.specs.Prelude.{◌≡◌, ℕ, ◌+◌, ◌*◌, ℤ, pos, Bool, true, false, List, [], ◌∷◌, ◌++◌, map, fold, if◌then◌else◌, refl}
+-- The tables that gates, words and the walk go through.
+use Rattle.std.specs.Prelude.{◌≡◌, ℕ, ◌+◌, ◌*◌, ℤ, pos, Bool, true, false, List, [], ◌∷◌, ◌++◌, fold, if◌then◌else◌, refl}
 use Rattle.netlist.specs.Polynomial.{step, is_negated}
 use Rattle.netlist.specs.declared.gate_word.GateWord.{GateWord}
 use Rattle.netlist.specs.declared.gate_word.GateWord.TheVariants.{And, Nand, Or, Nor, Xor, Xnor, Not, Buff}
-use Rattle.tables.specs.Table.{Table, entry, halves, each, zip_with, plus, minus, times, opposite, multiple, part0, part1, same_table}
+use Rattle.tables.specs.Table.{Table, entry, halves, zip_with, plus, minus, times, opposite, multiple, part0, part1, same_table}
+use Rattle.tables.specs.Pieces.{Piece, pieces, like, mul_work}
 use Rattle.word_base.specs.declared.decomp.Decomp.{Decomp}
 use Rattle.word_base.specs.declared.decomp.Decomp.TheVariants.{S, P, N}
-
--- a table over the levels from its own on
-pub record Piece : Type 0 where
-  pub level : ℕ
-  pub table : Table
-
-abbrev pub pieces : ℕ → List Table → List Piece
-pieces l = map (λ t. record { level = l; table = t })
-
--- the table of a constant over the levels of another
-abbrev pub like : Table → ℤ → Table
-like t c = each (λ x. c) t
-
--- ---- sums
-abbrev pub add_work : ℕ → Table → Table → List Piece
-add_work l a b = pieces l (a ∷ b ∷ plus a b ∷ [])
-
-abbrev pub sub_work : ℕ → Table → Table → List Piece
-sub_work l a b = pieces l (a ∷ b ∷ opposite b ∷ minus a b ∷ [])
-
-abbrev pub neg_work : ℕ → Table → List Piece
-neg_work l a = pieces l (a ∷ opposite a ∷ [])
-
--- ---- products
--- the cross terms of a product at a Davio decomposition: A0*B1 + A1*B0, and A1*B1 more
-abbrev pub crossed : ℕ → Table → Table → Table → Table → List Piece
-crossed l a0 a1 b0 b1 =
-    let cross = plus (times a0 b1) (times a1 b0) in pieces l (cross ∷ plus cross (times a1 b1) ∷ [])
-
--- the products of parts of parts that a product goes through, by the letters from its level on
-abbrev pub inner : List Decomp → ℕ → Table → Table → List Piece
-inner [] l a b = pieces l (times a b ∷ [])
-inner (S ∷ ds) l a b =
-    pieces l (times a b ∷ []) ++ inner ds (l + 1) (part0 S a) (part0 S b) ++ inner ds (l + 1) (part1 S a) (part1 S b)
-inner (d ∷ ds) l a b =
-    let a0 = part0 d a in
-    let a1 = part1 d a in
-    let b0 = part0 d b in
-    let b1 = part1 d b in
-    pieces l (times a b ∷ []) ++ inner ds (l + 1) a0 b0 ++ inner ds (l + 1) a0 b1 ++ inner ds (l + 1) a1 b0
-    ++ inner ds (l + 1) a1 b1 ++ crossed (l + 1) a0 a1 b0 b1
-
-abbrev pub mul_work : List Decomp → ℕ → Table → Table → List Piece
-mul_work ds l a b = pieces l (a ∷ b ∷ []) ++ inner ds l a b
 
 -- ---- gates
 abbrev pub not_work : ℕ → Table → List Piece

@@ -179,6 +179,12 @@ grown_store old body letters good fresh t root stands = record {
         (was.0, was.1, StandsFor-extends Hdd (find_in old) (find_in (old ++ body ∷ [])) letters 0 was.0 was.1 i (λ k c e. still_found old (body ∷ []) k c e) was.2)
     each_good i b (inr h) = (t, root, subst (λ (k : ℕ). StandsFor Hdd (find_in (old ++ body ∷ [])) letters 0 t root k) (sym h.0) stands)
 
+-- a body that was unknown has the last id
+pub last_id : (old : List (List ℕ)) (body : List ℕ) (id : ℕ) → ((i : ℕ) → find_in old i ≡ Some body → ⊥) → find_in (old ++ body ∷ []) id ≡ Some body → id ≡ length old + 1
+last_id old body id fresh h =
+    let Last : Type 0 = id ≡ length old + 1 in
+    elim (was_found old body id body h) as (λ _. Last) [ inl e ↦ absurd (fresh id e) | inr e ↦ e.0 ]
+
 pub put_good : (old new : List (List ℕ)) (letters : List Decomp) (body : List ℕ) (id : ℕ) → IsGoodStore Hdd (find_in old) letters → WasPut old new body id →
     (t : Table) (root : Weights) → StandsFor Hdd (find_in new) letters 0 t root id → IsGoodStore Hdd (find_in new) letters
 put_good old new letters body id good put t root stands =
@@ -191,8 +197,3 @@ put_good old new letters body id good put t root stands =
           let moved = subst Stands e.0 stands in
           subst Good (sym e.0) (grown_store old body letters good e.1 t root (subst (λ (k : ℕ). StandsFor Hdd (find_in (old ++ body ∷ [])) letters 0 t root k) last moved))
     ]
-  where
-    last_id : (old : List (List ℕ)) (body : List ℕ) (id : ℕ) → ((i : ℕ) → find_in old i ≡ Some body → ⊥) → find_in (old ++ body ∷ []) id ≡ Some body → id ≡ length old + 1
-    last_id old body id fresh h =
-        let Last : Type 0 = id ≡ length old + 1 in
-        elim (was_found old body id body h) as (λ _. Last) [ inl e ↦ absurd (fresh id e) | inr e ↦ e.0 ]

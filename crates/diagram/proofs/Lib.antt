@@ -4,3 +4,8 @@ pub mod JoinLaws
 pub mod ProductLaws
 pub mod StoreLaws
 pub mod SumLaws
+pub mod CauseLaws
+pub mod JoinCauses
+pub mod SumCauses
+pub mod ProductCauses
+pub mod Examples

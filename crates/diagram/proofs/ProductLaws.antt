@@ -37,6 +37,19 @@ expand (suc n) (halves a b) (halves c d) (halves e f) (entry w) h i j k = absurd
 expand (suc n) (halves a b) (halves c d) (halves e f) (halves g m) h i j k =
     both_halves (expand n a c e g h.0 i.0 j.0 k.0) (expand n b d f m h.1 i.1 j.1 k.1)
 
+-- the products of the parts merge to the product
+pub product_of_parts : (v : View) (l : ℕ) (t s : Table) (a b : Edge) → AreAllP v.letters → l < length v.letters → StandsAt v l t a → StandsAt v l s b →
+    merged P (times (part0 P t) (part0 P s)) (high_of_product (part0 P t) (part1 P t) (part0 P s) (part1 P s)) ≡ times t s
+product_of_parts v l t s a b all within h g =
+    let n = length (drop (l + 1) v.letters) in
+    let expanded : merged P (times (part0 P t) (part0 P s)) (high_of_product (part0 P t) (part1 P t) (part0 P s) (part1 P s))
+    ≡ times (merged P (part0 P t) (part1 P t)) (merged P (part0 P s) (part1 P s)) =
+    both_halves refl (sym (expand n (part0 P t) (part1 P t) (part0 P s) (part1 P s)
+    (part_over0 v l t a all within h) (part_over1 v l t a all within h) (part_over0 v l s b all within g) (part_over1 v l s b all within g))) in
+    expanded
+    ∙ ap (λ (z : Table). times z (merged P (part0 P s) (part1 P s))) (whole v l t a all within h)
+    ∙ ap (times t) (whole v l s b all within g)
+
 -- what was made in between serves before and after
 pub moved : (op : ℤ → ℤ → ℤ) (u v w x : View) (a b e : Edge) → Keeps u v → IsOfBoth op v w a b e → Keeps w x → IsOfBoth op u x a b e
 moved op u v w x a b e before h after = record {
@@ -72,7 +85,7 @@ pub record ProductsOfParts (v w u x : View) (level : ℕ) (a b low high : Edge) 
   pub keeps_u : Keeps w u
   pub keeps_x : Keeps u x
 
-products_stand : (v w u x : View) (level : ℕ) (a b low high : Edge) (m : ProductsOfParts v w u x level a b low high) (t s : Table) → StandsAt v level t a → StandsAt v level s b →
+pub products_stand : (v w u x : View) (level : ℕ) (a b low high : Edge) (m : ProductsOfParts v w u x level a b low high) (t s : Table) → StandsAt v level t a → StandsAt v level s b →
     StandsAt x (level + 1) (times (part0 P t) (part0 P s)) low
     × StandsAt x (level + 1) (high_of_product (part0 P t) (part1 P t) (part0 P s) (part1 P s)) high
 products_stand v w u x level a b low high m t s h g =
@@ -120,16 +133,7 @@ product_of_join v w u x y level a b low high e at m j keeps = record {
   where
     step : (t s : Table) → StandsAt v level t a → StandsAt v level s b → StandsAt y level (times t s) e
     step t s h g =
-        let n = length (drop (level + 1) v.letters) in
         let both = products_stand v w u x level a b low high m t s h g in
         let joined = j.table _ _ both.0 both.1 in
-        let expanded : merged P (times (part0 P t) (part0 P s)) (high_of_product (part0 P t) (part1 P t) (part0 P s) (part1 P s))
-        ≡ times (merged P (part0 P t) (part1 P t)) (merged P (part0 P s) (part1 P s)) =
-        both_halves refl (sym (expand n (part0 P t) (part1 P t) (part0 P s) (part1 P s)
-        (part_over0 v level t a m.all_p m.can_a.below h) (part_over1 v level t a m.all_p m.can_a.below h)
-        (part_over0 v level s b m.all_p m.can_a.below g) (part_over1 v level s b m.all_p m.can_a.below g))) in
-        let same : merged P (times (part0 P t) (part0 P s)) (high_of_product (part0 P t) (part1 P t) (part0 P s) (part1 P s)) ≡ times t s =
-        expanded
-        ∙ ap (λ (z : Table). times z (merged P (part0 P s) (part1 P s))) (whole v level t a m.all_p m.can_a.below h)
-        ∙ ap (times t) (whole v level s b m.all_p m.can_a.below g) in
+        let same = product_of_parts v level t s a b m.all_p m.can_a.below h g in
         subst (λ (z : Table). StandsAt y level z e) same joined

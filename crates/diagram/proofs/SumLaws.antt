@@ -86,7 +86,7 @@ of_each_constant v op a e z is =
       good = constant_good v (op a.weight);
     })
 
-zip_constants : (op : ℤ → ℤ → ℤ) (n : ℕ) (x y : ℤ) → zip_with op (constant_table n x) (constant_table n y) ≡ constant_table n (op x y)
+pub zip_constants : (op : ℤ → ℤ → ℤ) (n : ℕ) (x y : ℤ) → zip_with op (constant_table n x) (constant_table n y) ≡ constant_table n (op x y)
 zip_constants op zero x y = refl
 zip_constants op (suc n) x y = both_halves (zip_constants op n x y) (zip_constants op n x y)
 
@@ -139,6 +139,13 @@ lies_below v l t e within h =
     let from = from_level v (l + 1) t e h deeper in omega arith
 
 -- ---- operations on each entry
+-- what a linear operation makes of the parts merges to what it makes of the whole
+pub each_of_parts : (op : ℤ → ℤ) → ((x y : ℤ) → op (x +ℤ y) ≡ op x +ℤ op y) → (v : View) (l : ℕ) (t : Table) (e : Edge) → AreAllP v.letters → l < length v.letters →
+    StandsAt v l t e → merged P (each op (part0 P t)) (each op (part1 P t)) ≡ each op t
+each_of_parts op linear v l t e all within h =
+    sym (each-merged (length (drop (l + 1) v.letters)) P op op linear (part0 P t) (part1 P t) (part_over0 v l t e all within h) (part_over1 v l t e all within h))
+    ∙ ap (each op) (whole v l t e all within h)
+
 -- the parts went through the operation, one after the other
 pub record EachOfParts (op : ℤ → ℤ) (v w x : View) (level : ℕ) (a low high : Edge) : Type 0 where
   pub first : Edge
@@ -151,7 +158,7 @@ pub record EachOfParts (op : ℤ → ℤ) (v w x : View) (level : ℕ) (a low hi
   pub high_is : IsOfEach op w x second high
   pub high_keeps : Keeps w x
 
-each_parts_stand : (op : ℤ → ℤ) (v w x : View) (level : ℕ) (a low high : Edge) (m : EachOfParts op v w x level a low high) (t : Table) → StandsAt v level t a →
+pub each_parts_stand : (op : ℤ → ℤ) (v w x : View) (level : ℕ) (a low high : Edge) (m : EachOfParts op v w x level a low high) (t : Table) → StandsAt v level t a →
     StandsAt x (level + 1) (each op (part0 P t)) low × StandsAt x (level + 1) (each op (part1 P t)) high
 each_parts_stand op v w x level a low high m t h =
     let below = m.can.below in
@@ -192,15 +199,24 @@ each_of_join op linear v w x y level a low high e at m j keeps = record {
   where
     step : (t : Table) → StandsAt v level t a → StandsAt y level (each op t) e
     step t h =
-        let n = length (drop (level + 1) v.letters) in
         let both = each_parts_stand op v w x level a low high m t h in
         let joined = j.table (each op (part0 P t)) (each op (part1 P t)) both.0 both.1 in
-        let same : merged P (each op (part0 P t)) (each op (part1 P t)) ≡ each op t =
-        sym (each-merged n P op op linear (part0 P t) (part1 P t) (part_over0 v level t a m.all_p m.can.below h) (part_over1 v level t a m.all_p m.can.below h))
-        ∙ ap (each op) (whole v level t a m.all_p m.can.below h) in
+        let same = each_of_parts op linear v level t a m.all_p m.can.below h in
         subst (λ (z : Table). StandsAt y level z e) same joined
 
 -- ---- sums
+-- the sums of the parts merge to the sum
+pub sum_of_parts : (v : View) (l : ℕ) (t u : Table) (a b : Edge) → AreAllP v.letters → l < length v.letters → StandsAt v l t a → StandsAt v l u b →
+    merged P (plus (part0 P t) (part0 P u)) (plus (part1 P t) (part1 P u)) ≡ plus t u
+sum_of_parts v l t u a b all within h g =
+    let n = length (drop (l + 1) v.letters) in
+    let halves_sum : merged P (plus (part0 P t) (part0 P u)) (plus (part1 P t) (part1 P u)) ≡ plus (merged P (part0 P t) (part1 P t)) (merged P (part0 P u) (part1 P u)) =
+    both_halves refl (sym (exchange n (part0 P t) (part1 P t) (part0 P u) (part1 P u)
+    (part_over0 v l t a all within h) (part_over1 v l t a all within h) (part_over0 v l u b all within g) (part_over1 v l u b all within g))) in
+    halves_sum
+    ∙ ap (λ (z : Table). plus z (merged P (part0 P u) (part1 P u))) (whole v l t a all within h)
+    ∙ ap (plus t) (whole v l u b all within g)
+
 -- two edges at the level of the upper node, and the sums of their parts, one after the other
 pub record SumsOfParts (v w x : View) (level : ℕ) (a b low high : Edge) : Type 0 where
   pub a_low : Edge
@@ -217,7 +233,7 @@ pub record SumsOfParts (v w x : View) (level : ℕ) (a b low high : Edge) : Type
   pub high_is : IsOfBoth (λ x y. x +ℤ y) w x a_high b_high high
   pub high_keeps : Keeps w x
 
-sums_stand : (v w x : View) (level : ℕ) (a b low high : Edge) (m : SumsOfParts v w x level a b low high) (t u : Table) → StandsAt v level t a → StandsAt v level u b →
+pub sums_stand : (v w x : View) (level : ℕ) (a b low high : Edge) (m : SumsOfParts v w x level a b low high) (t u : Table) → StandsAt v level t a → StandsAt v level u b →
     StandsAt x (level + 1) (plus (part0 P t) (part0 P u)) low × StandsAt x (level + 1) (plus (part1 P t) (part1 P u)) high
 sums_stand v w x level a b low high m t u h g =
     let below = m.can_a.below in
@@ -262,19 +278,9 @@ sum_of_join v w x y level a b low high e at m j keeps = record {
   where
     step : (t u : Table) → StandsAt v level t a → StandsAt v level u b → StandsAt y level (plus t u) e
     step t u h g =
-        let n = length (drop (level + 1) v.letters) in
-        let t0 = part_over0 v level t a m.all_p m.can_a.below h in
-        let t1 = part_over1 v level t a m.all_p m.can_a.below h in
-        let u0 = part_over0 v level u b m.all_p m.can_a.below g in
-        let u1 = part_over1 v level u b m.all_p m.can_a.below g in
         let both = sums_stand v w x level a b low high m t u h g in
         let joined = j.table (plus (part0 P t) (part0 P u)) (plus (part1 P t) (part1 P u)) both.0 both.1 in
-        let halves_sum : merged P (plus (part0 P t) (part0 P u)) (plus (part1 P t) (part1 P u)) ≡ plus (merged P (part0 P t) (part1 P t)) (merged P (part0 P u) (part1 P u)) =
-        both_halves refl (sym (exchange n (part0 P t) (part1 P t) (part0 P u) (part1 P u) t0 t1 u0 u1)) in
-        let same : merged P (plus (part0 P t) (part0 P u)) (plus (part1 P t) (part1 P u)) ≡ plus t u =
-        halves_sum
-        ∙ ap (λ (z : Table). plus z (merged P (part0 P u) (part1 P u))) (whole v level t a m.all_p m.can_a.below h)
-        ∙ ap (plus t) (whole v level u b m.all_p m.can_a.below g) in
+        let same = sum_of_parts v level t u a b m.all_p m.can_a.below h g in
         subst (λ (z : Table). StandsAt y level z e) same joined
 
 -- ---- measures
@@ -289,10 +295,10 @@ made : ℤ → Edge
 made x = record { weight = x; node = 0 }
 
 pub constant_answered : (Fits : Type 0) {E : Type 0} (value : Result ℤ E) (result : Result Edge Limit) (z : ℤ) (Has : Edge → Type 0) → OkIff value Fits z →
-    MatchResult value (λ w. IfOk result (λ e. e ≡ record { weight = w; node = 0 })) (λ _. result ≡ Err limit.Overflow) →
+    MatchResult value (λ w. result ≡ Ok (record { weight = w; node = 0 })) (λ _. result ≡ Err limit.Overflow) →
     ((e : Edge) → e ≡ record { weight = z; node = 0 } → Has e) → IfOk result Has
 unfolding made
-constant_answered Fits (Ok w) (Ok e) z Has exact answers has = has e (answers ∙ ap made exact.1)
+constant_answered Fits (Ok w) (Ok e) z Has exact answers has = let same : e ≡ made w = cc in has e (same ∙ ap made exact.1)
 constant_answered Fits (Ok w) (Err f) z Has exact answers has = tt
 constant_answered Fits (Err f) (Ok e) z Has exact answers has = absurd (cc)
 constant_answered Fits (Err f) (Err g) z Has exact answers has = tt
@@ -321,7 +327,7 @@ of_each_same op other same v w a e h = record {
   good = h.good;
 }
 
-plus-opposite : (n : ℕ) (t u : Table) → IsOver n t → IsOver n u → zip_with (λ x y. x +ℤ y) t (each neg_ℤ u) ≡ zip_with (λ x y. x -ℤ y) t u
+pub plus-opposite : (n : ℕ) (t u : Table) → IsOver n t → IsOver n u → zip_with (λ x y. x +ℤ y) t (each neg_ℤ u) ≡ zip_with (λ x y. x -ℤ y) t u
 plus-opposite zero (entry x) (entry y) o p = refl
 plus-opposite zero (halves a b) u o p = absurd o
 plus-opposite zero (entry x) (halves c d) o p = absurd p
@@ -339,7 +345,7 @@ difference_of_sum u v w a b n e keeps negative sum = record {
 }
 
 -- ---- variables
-zero-plus : (n : ℕ) (c : ℤ) → plus (constant_table n (pos 0)) (constant_table n c) ≡ constant_table n c
+pub zero-plus : (n : ℕ) (c : ℤ) → plus (constant_table n (pos 0)) (constant_table n c) ≡ constant_table n c
 zero-plus zero c = ap entry (omega (arith, ints))
 zero-plus (suc n) c = both_halves (zero-plus n c) (zero-plus n c)
 

@@ -1,6 +1,8 @@
-ghost use Rattle.std.specs.Prelude.{◌≡◌, ℕ, ◌<◌, ◌↔◌, [], length, drop, IfOk, IsTrue};
+ghost use Rattle.std.specs.Prelude.{◌≡◌, ℕ, ◌<◌, ◌↔◌, [], ◌∷◌, length, drop, IfOk, IsTrue};
+ghost use Rattle.diagram.specs.Causes.{Causes, CausesOfJoin};
 ghost use Rattle.diagram.specs.Results.{CanPart, HasParts, CanJoin, IsJoin, variable_table};
 ghost use Rattle.diagram.specs.View.{View, AreAllP, StandsAt, IsEdge, Keeps, top_of};
+ghost use Rattle.tables.specs.Pieces.{pieces};
 ghost use Rattle.tables.specs.Table.{Table, constant_table};
 
 use crate::store::{ROOM, StoreFull, body_at, intern};
@@ -100,6 +102,7 @@ impl Builder {
         requires { CanJoin self.old level low high }
         ensures keeps { Keeps self.old self.new }
         ensures join { IfOk result (λ e. IsJoin self.old self.new level low high e) }
+        ensures causes { CausesOfJoin self.old self.new level low high result }
     {
         match join(level, low, high) {
             Joined::Skip(edge) => {
@@ -122,6 +125,7 @@ impl Builder {
         requires { level < length self.old.letters }
         ensures keeps { Keeps self.old self.new }
         ensures table { IfOk result (λ e. StandsAt self.new 0 (variable_table self.old level) e) }
+        ensures causes { Causes self.old self.new (pieces 0 (variable_table self.old level ∷ [])) result }
     {
         let _bodies = &self.bodies;
         let zero = self.constant(Weight::ZERO);

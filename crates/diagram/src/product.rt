@@ -1,6 +1,8 @@
-ghost use Rattle.std.specs.Prelude.{◌≡◌, ℤ, ◌*ℤ◌, IfOk};
+ghost use Rattle.std.specs.Prelude.{◌≡◌, ℤ, ◌*ℤ◌, drop, IfOk};
+ghost use Rattle.diagram.specs.Causes.{CausesOfBoth};
 ghost use Rattle.diagram.specs.Results.{IsOfBoth};
 ghost use Rattle.diagram.specs.View.{View, IsEdge, Keeps};
+ghost use Rattle.tables.specs.Pieces.{mul_work};
 
 use crate::builder::{Builder, Limit};
 use kind_laws::Edge;
@@ -12,6 +14,7 @@ impl Builder {
         requires b_good { IsEdge self.old b.now }
         ensures keeps { Keeps self.old self.new }
         ensures product { IfOk result (λ e. IsOfBoth (λ x y. x *ℤ y) self.old self.new a.now b.now e) }
+        ensures causes { CausesOfBoth (λ l. mul_work (drop l self.old.letters) l) self.old self.new a.now b.now result }
     {
         let level = self.top(a).min(self.top(b));
         if level == self.levels() {

@@ -1,6 +1,8 @@
 ghost use Rattle.std.specs.Prelude.{◌≡◌, ℤ, ◌+ℤ◌, ◌-ℤ◌, ◌*ℤ◌, neg_ℤ, IfOk, MatchResult};
+ghost use Rattle.diagram.specs.Causes.{CausesOfBoth, CausesOfEach};
 ghost use Rattle.diagram.specs.Results.{IsOfBoth, IsOfEach};
 ghost use Rattle.diagram.specs.View.{View, IsEdge, Keeps};
+ghost use Rattle.tables.specs.Pieces.{add_work, neg_work, scale_work, sub_work};
 
 use crate::builder::{Builder, Limit};
 use kind_laws::Edge;
@@ -9,7 +11,7 @@ use word_base::{Overflow, Weight};
 impl Builder {
     /// The edge of a constant, where the sum or product that makes it is a weight.
     pub(crate) fn constant_of(&self, value: Result<Weight, Overflow>) -> Result<Edge, Limit>
-        ensures { MatchResult value (λ w. IfOk result (λ e. e ≡ record { weight = w; node = 0 })) (λ _. result ≡ Err Limit.Overflow) }
+        ensures { MatchResult value (λ w. result ≡ Ok (record { weight = w; node = 0 })) (λ _. result ≡ Err Limit.Overflow) }
     {
         match value {
             Ok(value) => Ok(self.constant(value)),
@@ -22,6 +24,7 @@ impl Builder {
         requires { IsEdge self.old a.now }
         ensures keeps { Keeps self.old self.new }
         ensures multiple { IfOk result (λ e. IsOfEach (λ x. factor *ℤ x) self.old self.new a.now e) }
+        ensures causes { CausesOfEach (scale_work factor) self.old self.new a.now result }
     {
         let level = self.top(a);
         if level == self.levels() {
@@ -38,6 +41,7 @@ impl Builder {
         requires { IsEdge self.old a.now }
         ensures keeps { Keeps self.old self.new }
         ensures negative { IfOk result (λ e. IsOfEach neg_ℤ self.old self.new a.now e) }
+        ensures causes { CausesOfEach neg_work self.old self.new a.now result }
     {
         self.scale(Weight::ONE.neg(), a)
     }
@@ -48,6 +52,7 @@ impl Builder {
         requires b_good { IsEdge self.old b.now }
         ensures keeps { Keeps self.old self.new }
         ensures sum { IfOk result (λ e. IsOfBoth (λ x y. x +ℤ y) self.old self.new a.now b.now e) }
+        ensures causes { CausesOfBoth add_work self.old self.new a.now b.now result }
     {
         let level = self.top(a).min(self.top(b));
         if level == self.levels() {
@@ -66,6 +71,7 @@ impl Builder {
         requires b_good { IsEdge self.old b.now }
         ensures keeps { Keeps self.old self.new }
         ensures difference { IfOk result (λ e. IsOfBoth (λ x y. x -ℤ y) self.old self.new a.now b.now e) }
+        ensures causes { CausesOfBoth sub_work self.old self.new a.now b.now result }
     {
         let negative = self.neg(b)?;
         self.add(a, &negative)

@@ -1,6 +1,9 @@
+pub mod Evaluations
 pub mod Examples
 pub mod Formulas
+pub mod Naming
 pub mod Onces
 pub mod Orders
+pub mod Placed
 pub mod Values
 pub mod Words

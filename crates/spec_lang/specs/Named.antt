@@ -22,6 +22,10 @@ namings (product a b) = namings a ++ namings b
 abbrev pub words_named : Formula → List ℕ
 words_named formula = each_once (namings formula)
 
+-- the number of each word that the check names, once, the left side first
+abbrev pub words_of_check : Check → List ℕ
+words_of_check check = each_once (words_named check.left ++ words_named check.right)
+
 -- the nets of these words, each once, in the order of first naming, in a word the net of weight 1 first
 abbrev pub nets_of_words : List Word → List ℕ → List ℕ
 nets_of_words words numbers = each_once (flat_map (nets_of words) numbers)
@@ -49,3 +53,6 @@ half_adder_nets = refl
 
 half_adder_right_nets : nets_of_side half_adder half_adder_check.right ≡ 0 ∷ 1 ∷ []
 half_adder_right_nets = refl
+
+half_adder_check_words : words_of_check half_adder_check ≡ 2 ∷ 3 ∷ 0 ∷ 1 ∷ []
+half_adder_check_words = refl

@@ -1,5 +1,5 @@
 -- A specification as plain data.
-use Rattle.std.specs.Prelude.{ℕ, List, [], ◌∷◌, pos, codes}
+use Rattle.std.specs.Prelude.{ℕ, ℤ, List, [], ◌∷◌, pos, codes}
 use Rattle.word_base.specs.declared.decomp.Decomp.{Decomp}
 use Rattle.word_base.specs.declared.decomp.Decomp.TheVariants.{P}
 use Rattle.spec_lang.specs.Formula.{Formula, number, word, sum, product}
@@ -45,4 +45,13 @@ half_adder = record {
   letters = P ∷ P ∷ [];
   words = single (codes "a") 0 ∷ single (codes "b") 1 ∷ single (codes "s") 2 ∷ single (codes "c") 3 ∷ [];
   checks = half_adder_check ∷ [];
+}
+
+-- x + y == 0 over two inputs, without words
+abbrev pub sum_is_zero : ℤ → ℤ → Specification
+sum_is_zero x y = record {
+  order = 0 ∷ 1 ∷ [];
+  letters = P ∷ P ∷ [];
+  words = [];
+  checks = record { left = sum (number x) (number y); right = number (pos 0) } ∷ [];
 }

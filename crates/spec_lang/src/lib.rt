@@ -6,19 +6,25 @@
 //!
 //! What contracts say of a specification stands in `specs/`: `Formula` is an expression as a plain tree,
 //! `Specification` a whole specification as plain data, `WellFormed` what holds of each, `Value` has the value
-//! of a word and of a formula and says when it is in range, `Named` lists the nets that a check names.
+//! of a word and of a formula and says when it is in range, `Named` lists the nets that a check names, `Placed` has
+//! the values of all nets at bits of the inputs in the specification's order, `Evaluated` what an evaluation answers.
 #![tactic(auto)]
 
 mod check;
+mod eval_error;
 mod expr;
+mod inputs;
 pub mod laws;
 mod named;
 mod order;
 mod spec;
+#[cfg(test)]
+mod tests;
 mod value;
 mod word;
 
 pub use check::Check;
+pub use eval_error::EvalError;
 pub use expr::Expr;
 pub use order::input_order;
 pub use spec::Spec;

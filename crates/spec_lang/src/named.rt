@@ -49,6 +49,20 @@ pub(crate) fn words_named(alloc: Global, expr: &Expr) -> Result<Vec<u32>, AllocE
     each_once(alloc, &namings)
 }
 
+/// The number of each word that two expressions name, once, in the order of first naming.
+pub(crate) fn words_of_sides(
+    alloc: Global,
+    left: &Expr,
+    right: &Expr,
+) -> Result<Vec<u32>, AllocError>
+    ensures { IfOk result (λ words. words.items ≡ each_once (words_named (formula_of left.now) ++ words_named (formula_of right.now))) }
+{
+    let mut words = words_named(alloc, left)?;
+    let right = words_named(alloc, right)?;
+    words.extend_from_slice(&right)?;
+    each_once(alloc, &words)
+}
+
 /// Adds the nets of these words.
 pub(crate) fn put_nets(
     words: &[Word],

@@ -1,19 +1,24 @@
 ghost use Rattle.std.specs.Prelude.{◌≡◌, ◌<◌, ◌≤◌, length, slice_get, IfOk, IfSome, IsTrue, Some, ◌&&◌};
 ghost use Rattle.std.specs.Result.{OkIff};
+ghost use Rattle.spec_lang.specs.Evaluated.{IsEvaluated};
 ghost use Rattle.spec_lang.specs.Formula.{formula_of};
-ghost use Rattle.spec_lang.specs.Named.{nets_named};
+ghost use Rattle.spec_lang.specs.Named.{nets_named, words_of_check};
+ghost use Rattle.spec_lang.specs.Placed.{net_values};
 ghost use Rattle.spec_lang.specs.Specification.{specification};
 ghost use Rattle.spec_lang.specs.Value.{nets_of, value, all_in_range};
-ghost use Rattle.spec_lang.specs.WellFormed.{IsWellFormed, most_nets_of_word};
+ghost use Rattle.spec_lang.specs.WellFormed.{IsOver, IsWellFormed, most_nets_of_word};
 
 use crate::check::Check;
+use crate::eval_error::EvalError;
 use crate::expr::Expr;
-use crate::named::nets_of_sides;
+use crate::inputs::inputs_by_number;
+use crate::named::{nets_of_sides, words_of_sides};
 use crate::value::values_of;
 use crate::word::Word;
+use netlist::Netlist;
 use std::alloc::AllocError;
 use std::marker::Model;
-use word_base::{Decomp, Overflow, Weight};
+use word_base::{Assign, Decomp, Overflow, Weight};
 
 /// A specification over a netlist: an order of its inputs with a letter for each, words of its nets, and
 /// checks over the words.
@@ -102,6 +107,16 @@ impl Spec {
         self.checks[check as usize].sides()
     }
 
+    /// The words that the check names, by number, each once, in the order of first naming: the left side
+    /// before the right.
+    pub fn words_named(&self, check: u32) -> Result<Vec<u32>, AllocError>
+        requires { check < length self.now.checks }
+        ensures { IfOk result (λ words. IfSome (slice_get self.now.checks check) (λ sides. words.items ≡ words_of_check sides)) }
+    {
+        let (left, right) = self.check(check);
+        words_of_sides(*self.order.allocator(), left, right)
+    }
+
     /// The nets that the check's words name, each once, in the order of first naming: the left side before
     /// the right, and in a word the net of weight 1 first.
     pub fn named(&self, check: u32) -> Result<Vec<u32>, AllocError>
@@ -122,5 +137,28 @@ impl Spec {
     {
         let (left, right) = self.check(check);
         values_of(left, right, &self.words, values)
+    }
+
+    /// Both sides' values over a netlist, at the bits of the inputs in the order of the specification, from the
+    /// top level down. `Overflow` comes exactly where the value of a sub-expression of either side is out of range.
+    pub fn evaluate(
+        &self,
+        check: u32,
+        netlist: &Netlist,
+        at: &Assign,
+    ) -> Result<(Weight, Weight), EvalError>
+        requires check { check < length self.now.checks }
+        requires over { IsOver netlist.now self.now }
+        requires bits { length at.now ≡ length self.now.order }
+        ensures { let values = net_values netlist.now self.now at.now in
+            IfSome (slice_get self.now.checks check) (λ sides. IsEvaluated result
+            (all_in_range self.now.words values sides.left && all_in_range self.now.words values sides.right)
+            (value self.now.words values sides.left, value self.now.words values sides.right)) }
+    {
+        let alloc = *self.order.allocator();
+        let inputs = inputs_by_number(alloc, &self.order, at)?;
+        let mut values = Vec::new(alloc);
+        netlist.evaluate(&inputs, &mut values)?;
+        Ok(self.sides_at(check, &values)?)
     }
 }

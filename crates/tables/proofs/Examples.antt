@@ -7,6 +7,8 @@ use Rattle.tables.specs.Table.{Table, entry, halves, tabulate}
 use Rattle.tables.specs.Tree.{leaf, node, weights, tree}
 use Rattle.tables.specs.Canonical.{canonical, node_count}
 use Rattle.tables.specs.Fits.{fits, content}
+use Rattle.tables.specs.Pieces.{Piece, InNodes, SomeUnfit}
+use Rattle.std.proofs.Common.{arith, inl}
 
 -- the value of a bit
 abbrev bit : Bool → ℕ
@@ -277,3 +279,17 @@ k_star_bmd_sp_46-fits = refl
 
 k_star_bmd_sp_46-content : content k_star_bmd_sp_46 ≡ 170141183460469231731687303715884105727
 k_star_bmd_sp_46-content = refl
+
+-- ---- nodes of pieces, and pieces that do not fit
+abbrev variable_at : ℕ → Piece
+variable_at l = record { level = l; table = halves (entry (pos 0)) (entry (pos 1)) }
+
+variable-node : InNodes Hdd (P ∷ []) (variable_at 0 ∷ []) (node 0 (weights (pos 0) (pos 0)) leaf (weights (pos 1) (pos 0)) leaf)
+variable-node = (variable_at 0, (0, omega arith, refl), inl refl)
+
+-- 2^127 is no weight
+abbrev too_great : Piece
+too_great = record { level = 1; table = entry (pos 170141183460469231731687303715884105728) }
+
+too_great-unfit : SomeUnfit Hdd (P ∷ []) (variable_at 0 ∷ too_great ∷ [])
+too_great-unfit = (too_great, (1, omega arith, refl), refl)

@@ -49,7 +49,7 @@ low_part-at k l w a b s r = rw (eq-eqb l l refl)
 pub high_part-at : (k : KindName) (d : Decomp) (l : ℕ) (w a b : Weights) (s r : Shape) → high_of k d l w (node l a s b r) ≡ high_edge k d w b r
 high_part-at k d l w a b s r = rw (eq-eqb l l refl)
 
-part0-twice : (d : Decomp) (t : Table) → part0 d (halves t t) ≡ t
+pub part0-twice : (d : Decomp) (t : Table) → part0 d (halves t t) ≡ t
 part0-twice S t = refl
 part0-twice P t = refl
 part0-twice N t = refl

@@ -9,3 +9,4 @@ pub mod Moment
 pub mod Kronecker
 pub mod NodeLaws
 pub mod FitsLaws
+pub mod PieceLaws

@@ -5,3 +5,4 @@ pub mod Meaning
 pub mod Canonical
 pub mod Fits
 pub mod Laws
+pub mod Pieces

@@ -4,7 +4,8 @@ use Rattle.std.specs.Prelude.{true, false}
 use Rattle.std.proofs.lemmas.List.{take_all}
 use Rattle.netlist.specs.Polynomial.{step, is_negated, negation}
 use Rattle.netlist.specs.declared.gate_word.GateWord.{GateWord}
-use Rattle.checks.specs.Work.{like, step_table, fold_table, gate_table}
+use Rattle.tables.specs.Pieces.{like}
+use Rattle.checks.specs.Work.{step_table, fold_table, gate_table}
 use Rattle.tables.specs.Table.{Table, entry, halves, IsOver, each, zip_with, minus}
 use Rattle.tables.proofs.TableLaws.{both_halves}
 use Rattle.kind_laws.specs.declared.edge.Edge.{Edge}

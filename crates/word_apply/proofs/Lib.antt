@@ -1,2 +1,9 @@
+pub mod CallLaws
+pub mod ExpressionCauses
+pub mod ExpressionLaws
+pub mod FoldCauses
 pub mod FoldLaws
+pub mod GateCauses
 pub mod GateLaws
+pub mod WordCauses
+pub mod WordLaws

@@ -1,8 +1,10 @@
-ghost use Rattle.std.specs.Prelude.{◌≡◌, ◌<◌, length, IfOk};
+ghost use Rattle.std.specs.Prelude.{◌≡◌, ◌<◌, length, drop, IfOk};
+ghost use Rattle.checks.specs.Work.{step_work, fold_work, gate_work};
+ghost use Rattle.diagram.specs.Causes.{CausesOfBoth};
 ghost use Rattle.diagram.specs.Results.{IsOfBoth};
 ghost use Rattle.diagram.specs.View.{View, IsEdge, Keeps};
 ghost use Rattle.netlist.specs.Polynomial.{step, is_negated};
-ghost use Rattle.word_apply.specs.Applied.{AreEdges, IsFoldOf, IsGateOf};
+ghost use Rattle.word_apply.specs.Applied.{AreEdges, CausesOfAll, CausesOfRest, IsFoldOf, IsGateOf};
 
 use crate::gates::{and, not, or, xor};
 use diagram::{Builder, Limit};
@@ -15,6 +17,7 @@ fn one_step(builder: &mut Builder, word: GateWord, a: &Edge, b: &Edge) -> Result
     requires b_good { IsEdge builder.old b.now }
     ensures keeps { Keeps builder.old builder.new }
     ensures step { IfOk result (λ e. IsOfBoth (step word) builder.old builder.new a.now b.now e) }
+    ensures causes { CausesOfBoth (λ l. step_work word (drop l builder.old.letters) l) builder.old builder.new a.now b.now result }
 {
     match word {
         GateWord::And | GateWord::Nand => and(builder, a, b),
@@ -30,6 +33,7 @@ fn fold(builder: &mut Builder, word: GateWord, first: &Edge, rest: &[Edge]) -> R
     requires rest_good { AreEdges builder.old rest.now }
     ensures keeps { Keeps builder.old builder.new }
     ensures fold { IfOk result (λ e. IsFoldOf word builder.old builder.new first.now rest.now e) }
+    ensures causes { CausesOfRest (λ l. fold_work word (drop l builder.old.letters) l) builder.old builder.new first.now rest.now result }
 {
     match rest {
         [] => Ok(*first),
@@ -55,6 +59,7 @@ pub fn gate(builder: &mut Builder, word: GateWord, inputs: &[Edge]) -> Result<Ed
     requires some { 0 < length inputs.now }
     ensures keeps { Keeps builder.old builder.new }
     ensures gate { IfOk result (λ e. IsGateOf word builder.old builder.new inputs.now e) }
+    ensures causes { CausesOfAll (λ l. gate_work word (drop l builder.old.letters) l) builder.old builder.new inputs.now result }
 {
     match inputs {
         [] => unreachable!(),

@@ -1,4 +1,4 @@
-use Rattle.std.proofs.Common.{◌≡◌, ◌∙◌, ap}
+use Rattle.std.proofs.Common.{◌∙◌, ap}
 use Rattle.spec_lang.specs.Formula.{formula_of, sum}
 use Rattle.spec_lang.proofs.Formulas.{formula_of-Add}
 use Rattle.spec_lang.proofs.expr.Expr.add.Goals as goal

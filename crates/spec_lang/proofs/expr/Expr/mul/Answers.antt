@@ -1,4 +1,4 @@
-use Rattle.std.proofs.Common.{◌≡◌, ◌∙◌, ap}
+use Rattle.std.proofs.Common.{◌∙◌, ap}
 use Rattle.spec_lang.specs.Formula.{formula_of, product}
 use Rattle.spec_lang.proofs.Formulas.{formula_of-Mul}
 use Rattle.spec_lang.proofs.expr.Expr.mul.Goals as goal

@@ -1,4 +1,4 @@
-use Rattle.std.proofs.Common.{◌≡◌, ◌∙◌, ap}
+use Rattle.std.proofs.Common.{◌∙◌, ap}
 use Rattle.spec_lang.specs.Formula.{formula_of, difference}
 use Rattle.spec_lang.proofs.Formulas.{formula_of-Sub}
 use Rattle.spec_lang.proofs.expr.Expr.sub.Goals as goal

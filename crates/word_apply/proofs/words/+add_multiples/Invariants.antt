@@ -1,0 +1,5 @@
+use Rattle.std.proofs.Common.{length}
+use Rattle.word_apply.proofs.words.+add_multiples.Given as goal
+
+abbrev pub decreases-add_multiples : goal.decreases-add_multiples
+decreases-add_multiples l = length l.bits.now
