@@ -1,0 +1,53 @@
+use Rattle.std.proofs.Common.{◌≡◌, ◌∙◌, sym, ap, subst, ℕ, ◌+◌, ◌<◌, List, Bool, length}
+use Rattle.std.specs.Prelude.{All}
+use Rattle.std.proofs.lemmas.List.{length-replicate}
+use Rattle.netlist.specs.Circuit.{input_count, net_count}
+use Rattle.netlist.specs.Cone.{cone, is_in_cone}
+use Rattle.netlist.specs.Valuation.{bit_of}
+use Rattle.word_apply.specs.Applied.{AreEdges}
+use Rattle.cone_builder.specs.Built.{AreBuilt, AreVariables, ComeAfter, NetsAreBuilt, is_marked, or_listed}
+use Rattle.cone_builder.proofs.InputLaws.{repeated_good}
+use Rattle.cone_builder.proofs.NetLaws.{all_named_below, all_inputs, all_gates, nets_are_built, written_back}
+use Rattle.cone_builder.proofs.expressions.build_nets.Goals as goal
+
+pub reached-requires : goal.reached-requires
+reached-requires c =
+    subst (All (λ net. net < net_count c.args.netlist.now)) (sym c.deref.ensures.value)
+    (all_named_below c.args.netlist.now c.args.spec.now c.args.check c.in_ok-named.named.items c.requires.over c.requires.check c.in_ok-named.ensures)
+
+pub cone-requires : goal.cone-requires
+cone-requires c =
+    subst (All (λ net. net < net_count c.args.netlist.now)) (sym c.deref-2.ensures.value)
+    (all_named_below c.args.netlist.now c.args.spec.now c.args.check c.in_ok-named.named.items c.requires.over c.requires.check c.in_ok-named.ensures)
+
+pub build_into-requires-clause-inputs : goal.build_into-requires-clause-inputs
+build_into-requires-clause-inputs c =
+    subst (All (λ net. net < input_count c.args.netlist.now)) (sym c.order.ensures.order)
+    (all_inputs c.args.netlist.now c.args.spec.now c.requires.over c.order.ensures.well_formed)
+
+pub build_into-requires-clause-gates : goal.build_into-requires-clause-gates
+build_into-requires-clause-gates c =
+    all_gates c.args.netlist.now c.deref-2.result.now c.deref-4.result.now c.gates.ensures.accepted (c.deref-4.ensures.value ∙ c.in_ok-gates.ensures)
+
+pub build_into-requires-clause-good : goal.build_into-requires-clause-good
+build_into-requires-clause-good c =
+    subst (AreEdges c.args.builder.now) (sym (c.as_mut_slice.ensures.value ∙ c.in_ok-edges.ensures))
+    (repeated_good c.args.builder.now _ c.constant.result c.constant.ensures.good)
+
+pub returns-clause-built : goal.returns-clause-built
+returns-clause-built c =
+    let count : c.inputs.result + c.gates.result ≡ net_count c.args.netlist.now = ap (λ (n : ℕ). n + c.gates.result) c.inputs.ensures.inputs ∙ ap (λ (n : ℕ). input_count c.args.netlist.now + n) c.gates.ensures.gates in
+    let items : length c.in_ok-edges.edges.items ≡ net_count c.args.netlist.now =
+    ap length c.in_ok-edges.ensures ∙ length-replicate (c.inputs.result + c.gates.result) c.constant.result ∙ count in
+    let same : length c.build_into.new.edges ≡ length c.in_ok-edges.edges.items = c.build_into.auto.edges ∙ ap length c.as_mut_slice.ensures.value in
+    subst (NetsAreBuilt c.args.netlist.now c.args.spec.now c.args.check c.build_into.new.builder)
+    (sym (written_back c.in_ok-edges.edges.len c.in_ok-edges.edges.items c.build_into.new.edges c.in_ok-edges.edges.ok.0 same))
+    (nets_are_built c.args.netlist.now c.args.spec.now c.args.check c.in_ok-named.named.items c.deref-4.result.now c.deref-3.result.now c.args.builder.now c.build_into.new.builder
+    c.build_into.new.edges c.requires.over c.order.ensures.well_formed c.gates.ensures.sound c.gates.ensures.accepted c.requires.levels c.requires.check c.in_ok-named.ensures
+    (λ n low. ap (λ (bits : List Bool). bit_of bits n) c.deref-3.ensures.value ∙ c.in_ok-marks.ensures.marks n low ∙ ap (λ (ns : List ℕ). is_in_cone c.args.netlist.now ns n) c.deref.ensures.value)
+    (c.deref-4.ensures.value ∙ c.in_ok-gates.ensures ∙ ap (cone c.args.netlist.now) c.deref-2.ensures.value)
+    (same ∙ items) c.in_ok-build_into.ensures.good
+    (λ table variables gates after.
+    subst (λ (listed : List ℕ). AreBuilt c.build_into.new.builder table (or_listed (is_marked listed c.deref-3.result.now) c.deref-4.result.now) c.build_into.new.edges) c.order.ensures.order
+    (c.in_ok-build_into.ensures.built table (subst (λ (listed : List ℕ). AreVariables c.args.builder.now listed table) (sym c.order.ensures.order) variables) gates
+    (subst (λ (listed : List ℕ). ComeAfter c.args.netlist.now (is_marked listed c.deref-3.result.now) c.deref-4.result.now) (sym c.order.ensures.order) after))))

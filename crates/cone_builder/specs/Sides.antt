@@ -1,0 +1,20 @@
+-- What the edges of a check's sides stand for, and why they were not built.
+use Rattle.std.specs.Prelude.{IfSome, slice_get, ℕ}
+use Rattle.netlist.specs.Circuit.{Circuit}
+use Rattle.spec_lang.specs.Specification.{Specification}
+use Rattle.checks.specs.Sides.{side}
+use Rattle.kind_laws.specs.declared.edge.Edge.{Edge}
+use Rattle.diagram.specs.View.{View, StandsAt}
+use Rattle.diagram.specs.declared.builder.Limit.{Limit}
+use Rattle.diagram.specs.declared.builder.Limit.TheVariants as limit
+use Rattle.cone_builder.specs.declared.build_error.BuildError.{BuildError}
+use Rattle.cone_builder.specs.declared.build_error.BuildError.TheVariants as error
+
+-- the edges stand for the tables of both sides of the check of this number
+abbrev pub AreSides : Circuit → Specification → ℕ → View → Edge → Edge → Type 0
+AreSides c s number v left right =
+    IfSome (slice_get s.checks number) (λ check. StandsAt v 0 (side c s check.left) left × StandsAt v 0 (side c s check.right) right)
+
+abbrev pub build_error_of : Limit → BuildError
+build_error_of limit.Overflow = error.Overflow
+build_error_of limit.Full = error.Full

@@ -1,0 +1,125 @@
+ghost use Rattle.std.specs.Prelude.{◌≡◌, ℕ, ◌<◌, ◌≤◌, true, List, [], ◌∷◌, length, All, Contains, IfOk, OnOk};
+ghost use Rattle.cone_builder.specs.Built.{AreBuilt, AreGates, AreVariables, ComeAfter, NetsAreBuilt, is_marked, or_listed};
+ghost use Rattle.cone_builder.specs.Causes.{Includes, limit_met, net_work};
+ghost use Rattle.cone_builder.specs.Sides.{AreSides};
+ghost use Rattle.diagram.specs.Causes.{Causes};
+ghost use Rattle.diagram.specs.View.{View, Keeps};
+ghost use Rattle.netlist.specs.Circuit.{IsGate, input_count, net_count};
+ghost use Rattle.netlist.specs.Nets.{IsSound};
+ghost use Rattle.spec_lang.specs.WellFormed.{IsOver};
+ghost use Rattle.tables.specs.Pieces.{Piece, pieces};
+ghost use Rattle.tables.specs.Table.{Table};
+ghost use Rattle.word_apply.specs.Applied.{AreEdges};
+
+use crate::build_error::BuildError;
+use crate::gates::build_gates;
+use crate::inputs::{build_inputs, repeated};
+use crate::words::build_words;
+use diagram::Builder;
+use kind_laws::Edge;
+use netlist::Netlist;
+use spec_lang::Spec;
+use std::alloc::Global;
+use word_apply::expression;
+use word_base::Weight;
+
+/// Builds the marked inputs, and the gates in topological order.
+fn build_into(
+    alloc: Global,
+    builder: &mut Builder,
+    netlist: &Netlist,
+    order: &[u32],
+    marks: &[bool],
+    gates: &[u32],
+    edges: &mut [Edge],
+) -> Result<(), BuildError>
+    requires sound { IsSound netlist.now }
+    requires order { length order.now ≡ input_count netlist.now }
+    requires inputs { All (λ net. net < input_count netlist.now) order.now }
+    requires levels { length order.now ≤ length builder.old.letters }
+    requires marks { length marks.now ≡ net_count netlist.now }
+    requires gates { All (IsGate netlist.now) gates.now }
+    requires many { length edges.old ≡ net_count netlist.now }
+    requires good { AreEdges builder.old edges.old }
+    ensures keeps { Keeps builder.old builder.new }
+    ensures good { OnOk result (AreEdges builder.new edges.new) }
+    ensures built { OnOk result ((table : ℕ → Table) → AreVariables builder.old order.now table → AreGates netlist.now table →
+        ComeAfter netlist.now (is_marked order.now marks.now) gates.now →
+        AreBuilt builder.new table (or_listed (is_marked order.now marks.now) gates.now) edges.new) }
+    ensures causes { (table : ℕ → Table) (ps : List Piece) → AreVariables builder.old order.now table → AreGates netlist.now table →
+        ComeAfter netlist.now (is_marked order.now marks.now) gates.now →
+        ((net : ℕ) → is_marked order.now marks.now net ≡ true → Includes ps (pieces 0 (table net ∷ []))) →
+        ((net : ℕ) → Contains gates.now net → Includes ps (net_work netlist.now builder.old.letters table net)) → Causes builder.old builder.new ps (limit_met result) }
+{
+    build_inputs(builder, order, marks, edges)?;
+    let mut inputs = Vec::new(alloc);
+    build_gates(builder, netlist, gates, edges, &mut inputs)
+}
+
+/// The edge of each net that the check needs, by its number.
+fn build_nets(
+    alloc: Global,
+    builder: &mut Builder,
+    netlist: &Netlist,
+    spec: &Spec,
+    check: u32,
+) -> Result<Vec<Edge>, BuildError>
+    requires over { IsOver netlist.now spec.now }
+    requires levels { builder.old.letters ≡ spec.now.letters }
+    requires check { check < length spec.now.checks }
+    ensures keeps { Keeps builder.old builder.new }
+    ensures built { IfOk result (λ edges. NetsAreBuilt netlist.now spec.now check builder.new edges.items) }
+{
+    let count = netlist.inputs() as usize + netlist.gates() as usize;
+    let named = spec.named(check)?;
+    let marks = netlist.reached(&named)?;
+    let gates = netlist.cone(&named)?;
+    let mut edges = repeated(alloc, &builder.constant(Weight::ZERO), count)?;
+    build_into(
+        alloc,
+        builder,
+        netlist,
+        spec.order(),
+        &marks,
+        &gates,
+        edges.as_mut_slice(),
+    )?;
+    Ok(edges)
+}
+
+/// The edges of the left and the right side of a check, whose tables are over the inputs in the order of the
+/// specification.
+pub fn build_one(
+    alloc: Global,
+    builder: &mut Builder,
+    netlist: &Netlist,
+    spec: &Spec,
+    check: u32,
+) -> Result<(Edge, Edge), BuildError>
+    requires over { IsOver netlist.now spec.now }
+    requires levels { builder.old.letters ≡ spec.now.letters }
+    requires check { check < length spec.now.checks }
+    ensures keeps { Keeps builder.old builder.new }
+    ensures sides { IfOk result (λ sides. AreSides netlist.now spec.now check builder.new sides.0 sides.1) }
+{
+    let nets = build_nets(alloc, builder, netlist, spec, check)?;
+    let numbers = spec.words_named(check)?;
+    let mut words = repeated(
+        alloc,
+        &builder.constant(Weight::ZERO),
+        spec.words() as usize,
+    )?;
+    let mut bits = Vec::new(alloc);
+    build_words(
+        builder,
+        spec,
+        &numbers,
+        &nets,
+        words.as_mut_slice(),
+        &mut bits,
+    )?;
+    let (left, right) = spec.check(check);
+    let left = expression(builder, left, &words)?;
+    let right = expression(builder, right, &words)?;
+    Ok((left, right))
+}

@@ -1,0 +1,9 @@
+use Rattle.std.proofs.Common.{◌≡◌, ◌++◌, map, take}
+use Rattle.std.specs.String.{string_bytes}
+use Rattle.checks.specs.Report.{assignment}
+use Rattle.netlist.specs.Circuit.{name_of}
+use Rattle.report.proofs.lines.push_assignment.Given as goal
+
+abbrev pub invariant-loop-place : goal.invariant-loop-place
+invariant-loop-place l =
+    string_bytes l.text ≡ string_bytes l.initial.text ++ assignment (take l.place (map (name_of l.netlist) l.order)) (take l.place l.at)

@@ -1,0 +1,94 @@
+ghost use Rattle.std.specs.Prelude.{◌≡◌, ℕ, ◌<◌, ◌++◌, map, codes, length, All, IfOk, OnOk, string_bytes};
+ghost use Rattle.std.specs.Fmt.{signed_decimal};
+ghost use Rattle.checks.specs.Report.{assignment, digit};
+ghost use Rattle.netlist.specs.Circuit.{net_count, name_of};
+ghost use Rattle.report.specs.Lines.{brief, brief_line};
+ghost use Rattle.report.specs.Verdicts.{plain};
+
+use crate::verdict::Verdict;
+use netlist::Netlist;
+use std::alloc::{AllocError, Global};
+use word_base::{Assign, Weight};
+
+/// The line of a check, which is counted from 1: its number, what is answered and, where the sides differ, the
+/// bit of each input of `order` by name. `order` has the inputs from the top level down.
+///
+/// `Err` is want of memory.
+pub fn line(
+    alloc: Global,
+    number: u32,
+    netlist: &Netlist,
+    order: &[u32],
+    verdict: &Verdict,
+) -> Result<String, AllocError>
+    requires { All (λ net. net < net_count netlist.now) order.now }
+    // whatever number of nodes equal sides have: it is left out
+    ensures { IfOk result (λ text. (nodes : ℕ) → string_bytes text
+        ≡ brief_line number (map (name_of netlist.now) order.now) (plain nodes verdict.now)) }
+{
+    let mut text = format!(in alloc; "check {number} ")?;
+    push_verdict(&mut text, netlist, order, verdict)?;
+    text.push('\n')?;
+    Ok(text)
+}
+
+/// Appends what is said of a check.
+fn push_verdict(
+    text: &mut String,
+    netlist: &Netlist,
+    order: &[u32],
+    verdict: &Verdict,
+) -> Result<(), AllocError>
+    requires { All (λ net. net < net_count netlist.now) order.now }
+    ensures { OnOk result ((nodes : ℕ) → string_bytes text.new ≡ string_bytes text.old
+        ++ brief (map (name_of netlist.now) order.now) (plain nodes verdict.now)) }
+{
+    match verdict {
+        Verdict::Equal => text.push_str("equal"),
+        Verdict::Different { left, right, at } => {
+            push_values(text, left, right)?;
+            push_assignment(text, netlist, order, at)
+        }
+        Verdict::Overflow => text.push_str("overflow"),
+        Verdict::Full => text.push_str("full"),
+    }
+}
+
+/// Appends the values of both sides, up to where the assignment follows.
+fn push_values(text: &mut String, left: &Weight, right: &Weight) -> Result<(), AllocError>
+    ensures { OnOk result (string_bytes text.new ≡ string_bytes text.old
+        ++ (codes "different left " ++ signed_decimal left.now
+        ++ codes " right " ++ signed_decimal right.now ++ codes " at")) }
+{
+    let left = left.get();
+    let right = right.get();
+    write!(text, "different left {left} right {right} at")?;
+    Ok(())
+}
+
+/// Appends the name and the bit of each input.
+fn push_assignment(
+    text: &mut String,
+    netlist: &Netlist,
+    order: &[u32],
+    at: &Assign,
+) -> Result<(), AllocError>
+    requires { All (λ net. net < net_count netlist.now) order.now }
+    ensures { OnOk result (string_bytes text.new ≡ string_bytes text.old
+        ++ assignment (map (name_of netlist.now) order.now) at.now) }
+{
+    let count = order.len().min(at.len() as usize);
+    for place in 0..count {
+        push_bit(text, netlist.name(order[place]), at.get(place as u16))?;
+    }
+    Ok(())
+}
+
+/// Appends the name of an input and its bit.
+fn push_bit(text: &mut String, name: &str, bit: bool) -> Result<(), AllocError>
+    ensures { OnOk result (string_bytes text.new ≡ string_bytes text.old
+        ++ (codes " " ++ name.now ++ codes "=" ++ digit bit)) }
+{
+    let digit = if bit { "1" } else { "0" };
+    write!(text, " {name}={digit}")
+}
