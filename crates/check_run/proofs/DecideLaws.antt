@@ -1,0 +1,80 @@
+-- From the edges of both sides to the verdict.
+use Rattle.std.proofs.Common.{◌≡◌, refl, sym, ◌∙◌, ap, subst, ℕ, zero, suc, ◌<◌, ℤ, Bool, true, false, List, [], ◌∷◌, length, inl, inr}
+use Rattle.std.specs.Prelude.{◌⊎◌, IfSome, Option, Some, None, slice_get}
+use Rattle.std.specs.Option.{option_map_or}
+use Rattle.word_base.specs.declared.kind_name.KindName.TheVariants.{Hdd}
+use Rattle.netlist.specs.Circuit.{Circuit}
+use Rattle.spec_lang.specs.Formula.{Formula}
+use Rattle.spec_lang.specs.Placed.{net_values}
+use Rattle.spec_lang.specs.Specification.{Check, Specification}
+use Rattle.spec_lang.specs.Value.{value}
+use Rattle.tables.specs.Canonical.{node_count}
+use Rattle.tables.specs.Table.{Table, tabulate}
+use Rattle.checks.specs.Answer.{Difference, answer, entry_at, equal, different, first_difference}
+use Rattle.checks.specs.Answer as checks
+use Rattle.checks.specs.Sides.{side}
+use Rattle.checks.proofs.FirstDifference.{first_difference_found}
+use Rattle.checks.proofs.FormulaTables.{sides_are_over}
+use Rattle.kind_laws.specs.declared.edge.Edge.{Edge}
+use Rattle.diagram.specs.View.{View, StandsAt}
+use Rattle.cone_builder.specs.Sides.{AreSides}
+use Rattle.cone_builder.proofs.NetLaws.{if_some_at}
+use Rattle.report.specs.Verdicts.{plain}
+use Rattle.report.specs.declared.verdict.Verdict.TheVariants.{Equal, Different, Overflow, Full}
+use Rattle.report.specs.declared.verdict.Verdict.{Verdict}
+use Rattle.check_run.specs.Decided.{IsDecided, IsReported}
+
+-- the check is there, and the verdict says a limit or its answer
+decided_at : (c : Circuit) (s : Specification) (place nodes : ℕ) (check : Check) (verdict : Verdict) → slice_get s.checks place ≡ Some check →
+    (plain nodes verdict ≡ checks.overflow) ⊎ ((plain nodes verdict ≡ checks.full) ⊎ (plain nodes verdict ≡ answer Hdd c s check)) → IsDecided c s place verdict
+decided_at c s place nodes check verdict is said =
+    (nodes, subst (λ (o : Option Check). IfSome o (λ x. (plain nodes verdict ≡ checks.overflow) ⊎ ((plain nodes verdict ≡ checks.full) ⊎ (plain nodes verdict ≡ answer Hdd c s x)))) (sym is) said)
+
+pub overflow_decided : (c : Circuit) (s : Specification) (place : ℕ) (check : Check) → slice_get s.checks place ≡ Some check → IsDecided c s place Overflow
+overflow_decided c s place check is = decided_at c s place 0 check Overflow is (inl refl)
+
+pub full_decided : (c : Circuit) (s : Specification) (place : ℕ) (check : Check) → slice_get s.checks place ≡ Some check → IsDecided c s place Full
+full_decided c s place check is = decided_at c s place 0 check Full is (inr (inl refl))
+
+answer_of : (c : Circuit) (s : Specification) (check : Check) (o : Option Difference) → first_difference (side c s check.left) (side c s check.right) ≡ o →
+    option_map_or (λ d. different d.left d.right d.at) o (equal (node_count Hdd s.letters (side c s check.left))) ≡ answer Hdd c s check
+answer_of c s check o is = ap (λ p. option_map_or (λ d. different d.left d.right d.at) p (equal (node_count Hdd s.letters (side c s check.left)))) (sym is)
+
+pub equal_decided : (c : Circuit) (s : Specification) (place : ℕ) (check : Check) → slice_get s.checks place ≡ Some check →
+    side c s check.left ≡ side c s check.right → IsDecided c s place Equal
+equal_decided c s place check is same =
+    let left = side c s check.left in
+    let none : first_difference left (side c s check.right) ≡ None = ap (first_difference left) (sym same) ∙ first_difference_found.none_of_same left in
+    decided_at c s place (node_count Hdd s.letters left) check Equal is (inr (inr (answer_of c s check None none)))
+
+entry_of_tabulate : (n : ℕ) (f : List Bool → ℤ) (bits : List Bool) → length bits ≡ n → entry_at (tabulate n f) bits ≡ f bits
+entry_of_tabulate zero f [] many = refl
+entry_of_tabulate zero f (b ∷ bits) many = absurd (cc)
+entry_of_tabulate (suc n) f [] many = absurd (cc)
+entry_of_tabulate (suc n) f (false ∷ bits) many = entry_of_tabulate n (λ more. f (false ∷ more)) bits (cc)
+entry_of_tabulate (suc n) f (true ∷ bits) many = entry_of_tabulate n (λ more. f (true ∷ more)) bits (cc)
+
+-- the values at the bits of the first difference are those of the answer
+pub different_decided : (c : Circuit) (s : Specification) (place : ℕ) (check : Check) (d : Difference) (left right : ℤ) (at : List Bool) → slice_get s.checks place ≡ Some check →
+    first_difference (side c s check.left) (side c s check.right) ≡ Some d → at ≡ d.at →
+    left ≡ value s.words (net_values c s at) check.left → right ≡ value s.words (net_values c s at) check.right → IsDecided c s place (Different left right at)
+different_decided c s place check d left right at is found at_is left_is right_is =
+    let t = side c s check.left in
+    let u = side c s check.right in
+    let n = length s.order in
+    let first = first_difference_found.found n t u d (sides_are_over.of_formula c s check.left) (sides_are_over.of_formula c s check.right) found in
+    let bits : List Bool = d.at in
+    let l : left ≡ d.left =
+    left_is ∙ ap (λ b. value s.words (net_values c s b) check.left) at_is
+    ∙ sym (entry_of_tabulate n (λ b. value s.words (net_values c s b) check.left) bits first.full) ∙ first.left in
+    let r : right ≡ d.right =
+    right_is ∙ ap (λ b. value s.words (net_values c s b) check.right) at_is
+    ∙ sym (entry_of_tabulate n (λ b. value s.words (net_values c s b) check.right) bits first.full) ∙ first.right in
+    decided_at c s place 0 check (Different left right at) is
+    (inr (inr (ap (λ x. different x right at) l ∙ ap (λ x. different d.left x at) r ∙ ap (different d.left d.right) at_is ∙ answer_of c s check (Some d) found)))
+
+-- what the edges of the sides stand for
+pub sides_at : (c : Circuit) (s : Specification) (place : ℕ) (check : Check) (v : View) (left right : Edge) → slice_get s.checks place ≡ Some check →
+    AreSides c s place v left right → StandsAt v 0 (side c s check.left) left × StandsAt v 0 (side c s check.right) right
+sides_at c s place check v left right is sides =
+    if_some_at (slice_get s.checks place) check (λ x. StandsAt v 0 (side c s x.left) left × StandsAt v 0 (side c s x.right) right) is sides

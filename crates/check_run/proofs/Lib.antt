@@ -1,0 +1,3 @@
+pub mod DecideLaws
+pub mod LoadLaws
+pub mod UsualLaws

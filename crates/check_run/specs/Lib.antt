@@ -1,0 +1,6 @@
+pub mod Decided
+pub mod Fetched
+pub mod Halted
+pub mod Loaded
+pub mod Run
+pub mod Words

@@ -1,0 +1,14 @@
+//! The run: from the words of a command to the report.
+//!
+//! `run` reads the words, fetches and reads both files, decides the check, and puts out its line.
+#![tactic(auto)]
+
+mod command;
+mod decide;
+mod load;
+mod stop;
+#[cfg(test)]
+mod tests;
+mod words;
+
+pub use command::run;

@@ -1,0 +1,162 @@
+use super::*;
+use outside::{MemoryShelf, MemorySink, OpenGate};
+use std::alloc::{AllocError, Global};
+use std::test::Fail;
+
+const WORDS: &[&str] = &["check", "--kind", "hdd", "n", "s"];
+
+const HALF: &str = "INPUT(a)\nINPUT(b)\nOUTPUT(s)\nOUTPUT(c)\ns = XOR(a, b)\nc = AND(a, b)\n";
+
+const HALF_OR: &str = "INPUT(a)\nINPUT(b)\nOUTPUT(s)\nOUTPUT(c)\ns = OR(a, b)\nc = AND(a, b)\n";
+
+const HALF_SPEC: &str = "word a = a\nword b = b\nword s = s\nword c = c\ncheck s + 2*c == a + b\n";
+
+const HALF_WITHOUT_CARRY: &str =
+    "word a = a\nword b = b\nword s = s\nword c = c\ncheck s + c == a + b\n";
+
+const FULL: &str =
+    "INPUT(a)\nINPUT(b)\nINPUT(c)\nt = XOR(a, b)\ns = XOR(t, c)\nd = AND(a, b)\ne = AND(t, c)\no = OR(d, e)\n";
+
+const FULL_SPEC: &str =
+    "word a = a\nword b = b\nword c = c\nword s = s\nword o = o\ncheck s + 2*o == a + b + c\n";
+
+const C17: &str =
+    "INPUT(1)\nINPUT(2)\nINPUT(3)\nINPUT(6)\nINPUT(7)\nOUTPUT(22)\nOUTPUT(23)\n10 = NAND(1, 3)\n11 = NAND(3, 6)\n16 = NAND(2, 11)\n19 = NAND(11, 7)\n22 = NAND(10, 16)\n23 = NAND(16, 19)\n";
+
+const C17_SPEC: &str = "word g = 22\nword p = 10\nword q = 16\ncheck g + p*q == 1\n";
+
+const NOR: &str = "INPUT(a)\nINPUT(b)\nz = NOR(a, b)\n";
+
+const NOR_SPEC: &str = "word a = a\nword b = b\nword z = z\ncheck z + a + b == 1 + a*b\n";
+
+const PAIR: &str = "INPUT(a)\nINPUT(b)\n";
+
+/// A shelf with a netlist and a specification.
+fn shelf_of(alloc: Global, netlist: &[u8], spec: &[u8]) -> Result<MemoryShelf, AllocError> {
+    let mut shelf = MemoryShelf::new(alloc);
+    shelf.file("n", netlist)?;
+    shelf.file("s", spec)?;
+    Ok(shelf)
+}
+
+/// The status of a run, and whether it wrote just this.
+fn outcome(
+    alloc: Global,
+    words: &[&str],
+    shelf: &mut MemoryShelf,
+    room: u32,
+    written: &str,
+) -> Result<(u8, bool), AllocError> {
+    let mut out = MemorySink::create(alloc, room)?;
+    let status = run(alloc, words, shelf, &mut out, &OpenGate);
+    Ok((status.number(), out.bytes() == written.as_bytes()))
+}
+
+/// The same over two texts, with room for all.
+fn of_texts(
+    alloc: Global,
+    netlist: &str,
+    spec: &str,
+    written: &str,
+) -> Result<(u8, bool), AllocError> {
+    let mut shelf = shelf_of(alloc, netlist.as_bytes(), spec.as_bytes())?;
+    outcome(alloc, WORDS, &mut shelf, 1000, written)
+}
+
+#[test]
+fn checks_are_decided(rt: HostRuntime) -> Result<(), Fail> {
+    let rows = [
+        (HALF, HALF_SPEC, 0, "check 1 equal\n"),
+        (FULL, FULL_SPEC, 0, "check 1 equal\n"),
+        (C17, C17_SPEC, 0, "check 1 equal\n"),
+        (NOR, NOR_SPEC, 0, "check 1 equal\n"),
+        (
+            "INPUT(a)\r\ny = nand(a, a)\r\n",
+            "word y = y\nword a = a\ncheck y + a == 1\n",
+            0,
+            "check 1 equal\n",
+        ),
+        (
+            HALF_OR,
+            HALF_SPEC,
+            1,
+            "check 1 different left 3 right 2 at a=1 b=1\n",
+        ),
+        (
+            HALF,
+            HALF_WITHOUT_CARRY,
+            1,
+            "check 1 different left 1 right 2 at a=1 b=1\n",
+        ),
+        (
+            PAIR,
+            "check 170141183460469231731687303715884105727 + 1 == 1\n",
+            3,
+            "check 1 overflow\n",
+        ),
+    ];
+    for (netlist, spec, status, line) in rows {
+        let answer = of_texts(rt.alloc(), netlist, spec, line)?;
+        assert_eq!(rt; answer, (status, true), "{line}");
+    }
+    Ok(())
+}
+
+#[test]
+fn what_is_not_taken_is_refused(rt: HostRuntime) -> Result<(), Fail> {
+    let rows = [
+        (
+            "INPUT(a)\nOUTPUT(z)\nz = DFF(a)\n",
+            "refused netlist 3 sequential\n",
+        ),
+        ("INPUT(a)\nx = AND(x, a)\n", "refused netlist 2 cycle\n"),
+        ("INPUT(a)\nz = AND(a", "refused netlist 2 bad-line\n"),
+        (
+            "INPUT(a)\nx = NOT(q)\na = NOT(x)\n",
+            "refused netlist 3 duplicate-net\n",
+        ),
+        (HALF, "refused spec unbuilt\n"),
+    ];
+    for (netlist, line) in rows {
+        let answer = of_texts(rt.alloc(), netlist, "", line)?;
+        assert_eq!(rt; answer, (2, true), "{line}");
+    }
+    let mut shelf = shelf_of(rt.alloc(), HALF.as_bytes(), HALF_SPEC.as_bytes())?;
+    let answer = outcome(
+        rt.alloc(),
+        &["check"],
+        &mut shelf,
+        1000,
+        "refused words unbuilt\n",
+    )?;
+    assert_eq!(rt; answer, (2, true));
+    Ok(())
+}
+
+#[test]
+fn long_files_are_refused(rt: HostRuntime) -> Result<(), Fail> {
+    let long = vec![in rt.alloc(); b'#'; 1_048_577]?;
+    let mut shelf = shelf_of(rt.alloc(), &long, HALF_SPEC.as_bytes())?;
+    let line = "refused netlist too-long\n";
+    let answer = outcome(rt.alloc(), WORDS, &mut shelf, 1000, line)?;
+    assert_eq!(rt; answer, (2, true));
+    let mut shelf = shelf_of(rt.alloc(), HALF.as_bytes(), &long)?;
+    let line = "refused spec too-long\n";
+    let answer = outcome(rt.alloc(), WORDS, &mut shelf, 1000, line)?;
+    assert_eq!(rt; answer, (2, true));
+    Ok(())
+}
+
+#[test]
+fn faults_outside_are_told(rt: HostRuntime) -> Result<(), Fail> {
+    let mut shelf = shelf_of(rt.alloc(), HALF.as_bytes(), HALF_SPEC.as_bytes())?;
+    shelf.fail(2)?;
+    let answer = outcome(rt.alloc(), WORDS, &mut shelf, 1000, "")?;
+    assert_eq!(rt; answer, (4, true), "a fetch that fails");
+    let words = ["check", "--kind", "hdd", "n", "absent"];
+    let answer = outcome(rt.alloc(), &words, &mut shelf, 1000, "")?;
+    assert_eq!(rt; answer, (4, true), "an absent file");
+    let answer = outcome(rt.alloc(), WORDS, &mut shelf, 5, "check")?;
+    assert_eq!(rt; answer, (5, true), "a sink of five bytes");
+    Ok(())
+}
