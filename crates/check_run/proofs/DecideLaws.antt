@@ -1,17 +1,17 @@
 -- From the edges of both sides to the verdict.
-use Rattle.std.proofs.Common.{◌≡◌, refl, sym, ◌∙◌, ap, subst, ℕ, zero, suc, ◌<◌, ℤ, Bool, true, false, List, [], ◌∷◌, length, inl, inr}
-use Rattle.std.specs.Prelude.{◌⊎◌, IfSome, Option, Some, None, slice_get}
+use Rattle.std.proofs.Common.{◌≡◌, refl, sym, ◌∙◌, ap, subst, ℕ, zero, suc, ℤ, Bool, true, false, List, [], ◌∷◌, length}
+use Rattle.std.specs.Prelude.{IfSome, Option, Some, None, slice_get}
 use Rattle.std.specs.Option.{option_map_or}
 use Rattle.word_base.specs.declared.kind_name.KindName.TheVariants.{Hdd}
 use Rattle.netlist.specs.Circuit.{Circuit}
-use Rattle.spec_lang.specs.Formula.{Formula}
 use Rattle.spec_lang.specs.Placed.{net_values}
 use Rattle.spec_lang.specs.Specification.{Check, Specification}
 use Rattle.spec_lang.specs.Value.{value}
 use Rattle.tables.specs.Canonical.{node_count}
-use Rattle.tables.specs.Table.{Table, tabulate}
+use Rattle.tables.specs.Table.{tabulate}
 use Rattle.checks.specs.Answer.{Difference, answer, entry_at, equal, different, first_difference}
-use Rattle.checks.specs.Answer as checks
+use Rattle.checks.specs.Limits.{over, short}
+use Rattle.checks.specs.declared.method.Method.TheVariants.{Forward}
 use Rattle.checks.specs.Sides.{side}
 use Rattle.checks.proofs.FirstDifference.{first_difference_found}
 use Rattle.checks.proofs.FormulaTables.{sides_are_over}
@@ -22,19 +22,19 @@ use Rattle.cone_builder.proofs.NetLaws.{if_some_at}
 use Rattle.report.specs.Verdicts.{plain}
 use Rattle.report.specs.declared.verdict.Verdict.TheVariants.{Equal, Different, Overflow, Full}
 use Rattle.report.specs.declared.verdict.Verdict.{Verdict}
-use Rattle.check_run.specs.Decided.{IsDecided, IsReported}
+use Rattle.check_run.specs.Decided.{IsDecided, IsVerdictOf, cells}
 
--- the check is there, and the verdict says a limit or its answer
+-- the check is there, and the verdict is one of it
 decided_at : (c : Circuit) (s : Specification) (place nodes : ℕ) (check : Check) (verdict : Verdict) → slice_get s.checks place ≡ Some check →
-    (plain nodes verdict ≡ checks.overflow) ⊎ ((plain nodes verdict ≡ checks.full) ⊎ (plain nodes verdict ≡ answer Hdd c s check)) → IsDecided c s place verdict
+    IsVerdictOf c s check (plain nodes verdict) → IsDecided c s place verdict
 decided_at c s place nodes check verdict is said =
-    (nodes, subst (λ (o : Option Check). IfSome o (λ x. (plain nodes verdict ≡ checks.overflow) ⊎ ((plain nodes verdict ≡ checks.full) ⊎ (plain nodes verdict ≡ answer Hdd c s x)))) (sym is) said)
+    (nodes, subst (λ (o : Option Check). IfSome o (λ x. IsVerdictOf c s x (plain nodes verdict))) (sym is) said)
 
-pub overflow_decided : (c : Circuit) (s : Specification) (place : ℕ) (check : Check) → slice_get s.checks place ≡ Some check → IsDecided c s place Overflow
-overflow_decided c s place check is = decided_at c s place 0 check Overflow is (inl refl)
+pub overflow_decided : (c : Circuit) (s : Specification) (place : ℕ) (check : Check) → slice_get s.checks place ≡ Some check → over Hdd Forward c s check ≡ true → IsDecided c s place Overflow
+overflow_decided c s place check is beyond = decided_at c s place 0 check Overflow is beyond
 
-pub full_decided : (c : Circuit) (s : Specification) (place : ℕ) (check : Check) → slice_get s.checks place ≡ Some check → IsDecided c s place Full
-full_decided c s place check is = decided_at c s place 0 check Full is (inr (inl refl))
+pub full_decided : (c : Circuit) (s : Specification) (place : ℕ) (check : Check) → slice_get s.checks place ≡ Some check → short Hdd Forward 1 cells c s check ≡ true → IsDecided c s place Full
+full_decided c s place check is spent = decided_at c s place 0 check Full is spent
 
 answer_of : (c : Circuit) (s : Specification) (check : Check) (o : Option Difference) → first_difference (side c s check.left) (side c s check.right) ≡ o →
     option_map_or (λ d. different d.left d.right d.at) o (equal (node_count Hdd s.letters (side c s check.left))) ≡ answer Hdd c s check
@@ -45,7 +45,7 @@ pub equal_decided : (c : Circuit) (s : Specification) (place : ℕ) (check : Che
 equal_decided c s place check is same =
     let left = side c s check.left in
     let none : first_difference left (side c s check.right) ≡ None = ap (first_difference left) (sym same) ∙ first_difference_found.none_of_same left in
-    decided_at c s place (node_count Hdd s.letters left) check Equal is (inr (inr (answer_of c s check None none)))
+    decided_at c s place (node_count Hdd s.letters left) check Equal is (answer_of c s check None none)
 
 entry_of_tabulate : (n : ℕ) (f : List Bool → ℤ) (bits : List Bool) → length bits ≡ n → entry_at (tabulate n f) bits ≡ f bits
 entry_of_tabulate zero f [] many = refl
@@ -71,7 +71,7 @@ different_decided c s place check d left right at is found at_is left_is right_i
     right_is ∙ ap (λ b. value s.words (net_values c s b) check.right) at_is
     ∙ sym (entry_of_tabulate n (λ b. value s.words (net_values c s b) check.right) bits first.full) ∙ first.right in
     decided_at c s place 0 check (Different left right at) is
-    (inr (inr (ap (λ x. different x right at) l ∙ ap (λ x. different d.left x at) r ∙ ap (different d.left d.right) at_is ∙ answer_of c s check (Some d) found)))
+    (ap (λ x. different x right at) l ∙ ap (λ x. different d.left x at) r ∙ ap (different d.left d.right) at_is ∙ answer_of c s check (Some d) found)
 
 -- what the edges of the sides stand for
 pub sides_at : (c : Circuit) (s : Specification) (place : ℕ) (check : Check) (v : View) (left right : Edge) → slice_get s.checks place ≡ Some check →

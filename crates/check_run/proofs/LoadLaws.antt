@@ -1,6 +1,6 @@
 -- Why a file stops a run.
-use Rattle.std.proofs.Common.{◌≡◌, refl, sym, ◌∙◌, ap, subst, ℕ, zero, suc, ◌+◌, ◌<◌, ◌≤◌, Bool, true, false, List, [], ◌∷◌, length, arith, inl, inr}
-use Rattle.std.specs.Prelude.{◌⊎◌, ◌&&◌, Contains, Option, Some, None, if◌then◌else◌}
+use Rattle.std.proofs.Common.{◌≡◌, subst, ℕ, ◌≤◌, Bool, true, false, List, [], ◌∷◌, arith, inl, inr}
+use Rattle.std.specs.Prelude.{◌&&◌, Contains, Some, None, if◌then◌else◌}
 use Rattle.netlist.specs.Circuit.{Circuit}
 use Rattle.netlist.proofs.Members.{Contains-head, Contains-cons}
 use Rattle.outside.specs.Count.{Rose}
@@ -10,7 +10,7 @@ use Rattle.report.specs.declared.refusal.Refusal.TheVariants as refusal
 use Rattle.check_run.specs.declared.stop.Stop.{Stop}
 use Rattle.check_run.specs.declared.stop.Stop.TheVariants as stop
 use Rattle.check_run.specs.Words.{Names, names_of, is_name, is_check_hdd}
-use Rattle.check_run.specs.Loaded.{Files, IsFileStop, IsStopped, IsRefused, RefusesNetlist, RefusesSpec, SaysNetlist, RoseForSome}
+use Rattle.check_run.specs.Loaded.{Files, IsFileStop, IsStopped, IsRefused, RefusesNetlist, RefusesSpec, SaysNetlist}
 
 -- ---- the names are among the words
 chosen : (b : Bool) (made names : Names) → (if b then Some made else None) ≡ Some names → made ≡ names

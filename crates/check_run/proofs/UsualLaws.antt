@@ -1,10 +1,9 @@
 -- Each specification of the first form has the usual letters and one check.
-use Rattle.std.proofs.Common.{◌≡◌, refl, sym, ◌∙◌, ap, subst, ℕ, zero, suc, List, [], ◌∷◌, ◌++◌, length, replicate}
+use Rattle.std.proofs.Common.{◌≡◌, refl, subst, ℕ, zero, suc, List, [], ◌∷◌, ◌++◌, replicate}
 use Rattle.std.specs.Prelude.{Option, Some, None}
 use Rattle.std.specs.Option.{option_map, option_and_then}
 use Rattle.netlist.specs.Circuit.{Circuit, input_count}
 use Rattle.spec_lang.specs.Specification.{Check, Specification, Word}
-use Rattle.word_base.specs.declared.decomp.Decomp.{Decomp}
 use Rattle.word_base.specs.declared.decomp.Decomp.TheVariants.{P}
 use Rattle.word_base.specs.declared.kind_name.KindName.TheVariants.{Hdd}
 use Rattle.first_form.specs.FirstForm.{said, with_usual, check_line, word_line, first_form}

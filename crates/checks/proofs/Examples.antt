@@ -13,7 +13,7 @@ use Rattle.checks.specs.declared.method.Method.TheVariants.{Forward, Backward}
 use Rattle.checks.specs.Answer.{IsFirstDifference, answer, equal, different}
 use Rattle.checks.proofs.FirstDifference.{first_difference_found}
 use Rattle.checks.specs.Backward.{backward_letters, backward_nets, backward_work}
-use Rattle.checks.specs.Forward.{forward_work}
+use Rattle.checks.specs.Forward.{building_work, forward_work}
 use Rattle.checks.specs.Limits.{need, over, short}
 
 -- two inputs and no gate; an inverter; z = NOR(a, b); no net at all
@@ -48,6 +48,10 @@ half_or-differs = refl
 -- 2 + 37 + 33 + 12 + 1 + 33 + 3 + 3
 half-work : length (forward_work half half_adder half_adder_check) ≡ 124
 half-work = refl
+
+-- both sides are equal, so there is no walk: all of this is their building
+half-building : building_work half half_adder half_adder_check ≡ forward_work half half_adder half_adder_check
+half-building = refl
 
 -- The nodes of these tables' diagrams are those of b, a, a*b, a + b, a + b - 2*a*b, and of 1 - 2*b below the last
 half-need : need StarBmd Forward half half_adder half_adder_check ≡ 6

@@ -33,11 +33,14 @@ difference_work l c s check =
     let right = side c s check.right in
     if same_table left right then [] else walk s.letters l left right
 
-abbrev pub forward_work : Circuit → Specification → Check → List Piece
-forward_work c s check =
+-- the work of building both sides
+abbrev pub building_work : Circuit → Specification → Check → List Piece
+building_work c s check =
     input_work c s check
     ++ flat_map (gate_work_of c s) (cone c (nets_named s check))
     ++ flat_map (word_work_of c s) (words_of_check check)
     ++ formula_work s.letters 0 (side c s) check.left
     ++ formula_work s.letters 0 (side c s) check.right
-    ++ difference_work 0 c s check
+
+abbrev pub forward_work : Circuit → Specification → Check → List Piece
+forward_work c s check = building_work c s check ++ difference_work 0 c s check

@@ -5,3 +5,4 @@ pub mod InputLaws
 pub mod NetLaws
 pub mod SideLaws
 pub mod WordLaws
+pub mod WorkLaws

@@ -151,6 +151,9 @@ named_built c s nets gates marks net over good accepted tells is low named =
 pub if_some_at : {X : Type 0} (o : Option X) (x : X) (P : X → Type 0) → o ≡ Some x → IfSome o P → P x
 if_some_at o x P is h = subst (λ (p : Option _). IfSome p P) is h
 
+pub if_some_from : {X : Type 0} (o : Option X) (x : X) (P : X → Type 0) → o ≡ Some x → P x → IfSome o P
+if_some_from o x P is h = subst (λ (p : Option _). IfSome p P) (sym is) h
+
 pub check_there : (s : Specification) (number : ℕ) → number < length s.checks → (check : Check) × (slice_get s.checks number ≡ Some check)
 check_there s number low =
     elim (slice_get_cases s.checks number).1 as (λ _. (check : Check) × (slice_get s.checks number ≡ Some check)) [

@@ -1,8 +1,9 @@
 -- From the edges of a check's words to those of its sides.
-use Rattle.std.proofs.Common.{◌≡◌, refl, sym, ◌∙◌, ap, subst, ℕ, zero, suc, ◌<◌, pos, Bool, true, false, List, [], ◌∷◌, length, get_or, arith}
-use Rattle.std.specs.Prelude.{All, Contains, Some, None, slice_get, slice_index_or}
+use Rattle.std.proofs.Common.{◌≡◌, refl, sym, ◌∙◌, ap, subst, ℕ, zero, suc, ◌<◌, pos, Bool, true, false, List, [], ◌∷◌, ◌++◌, drop, length, get_or, arith}
+use Rattle.std.specs.Prelude.{All, Contains, Result, Some, None, slice_get, slice_index_or}
 use Rattle.std.proofs.lemmas.List.Elements.{Contains-append_left, Contains-append_right, All-from_get_or, All-get_or, All-head, All-tail}
 use Rattle.std.proofs.lemmas.Option.{get_or_from_slice_get}
+use Rattle.word_base.specs.declared.decomp.Decomp.{Decomp}
 use Rattle.word_base.specs.declared.kind_name.KindName.TheVariants.{Hdd}
 use Rattle.netlist.specs.Circuit.{Circuit, net_count}
 use Rattle.netlist.specs.Order.{is_among}
@@ -14,18 +15,22 @@ use Rattle.spec_lang.specs.Specification.{Check, Specification, Word}
 use Rattle.spec_lang.specs.Value.{nets_of}
 use Rattle.spec_lang.specs.WellFormed.{IsOver, IsSizedWord, IsWellFormed, NamesWords}
 use Rattle.spec_lang.proofs.Naming.{named_within, net_of_word_named}
+use Rattle.tables.specs.Pieces.{Piece, pieces, neg_work, add_work, sub_work, mul_work}
 use Rattle.tables.specs.Table.{Table, entry, opposite, plus, minus, times}
+use Rattle.checks.specs.FormulaWork.{formula_work}
 use Rattle.checks.specs.Sides.{net_table, side}
 use Rattle.checks.proofs.FormulaTables.{formula_tables}
 use Rattle.checks.proofs.WordTables.{word_tables}
 use Rattle.kind_laws.specs.Edge.{root_of}
 use Rattle.kind_laws.specs.declared.edge.Edge.{Edge}
 use Rattle.kind_laws.proofs.GraphLaws.{same_table_of_edge}
+use Rattle.diagram.specs.declared.builder.Limit.{Limit}
+use Rattle.diagram.specs.Causes.{Causes}
 use Rattle.diagram.specs.View.{View, find_in, StandsAt}
 use Rattle.diagram.proofs.EdgeLaws.{allows_all}
-use Rattle.word_apply.specs.Applied.{AllStand, AreEdges, IsFormulaOf, formula_table}
+use Rattle.word_apply.specs.Applied.{AllStand, AreEdges, CausesOfAll, IsFormulaOf, formula_table}
 use Rattle.cone_builder.specs.Built.{AreBuilt, AreWords, NetsAreBuilt, or_listed}
-use Rattle.cone_builder.proofs.BuiltLaws.{none_built}
+use Rattle.cone_builder.proofs.BuiltLaws.{no_edge, none_built}
 use Rattle.cone_builder.proofs.NetLaws.{below_length, if_some_at, nets_below}
 
 -- ---- the table that each edge stands for
@@ -49,6 +54,12 @@ tables_at v [] good i d t u low stands = absurd (omega arith)
 tables_at v (e ∷ es) good zero d t u low stands = only_table v good.0.0 u e refl good.0.1 stands
 tables_at v (e ∷ es) good (suc i) d t u low stands = tables_at v es good.1 i d t u (omega arith) stands
 
+both_same : {p q r s : List Piece} → p ≡ q → r ≡ s → p ++ r ≡ q ++ s
+both_same {q = q} {r = r} e f = ap (λ (x : List Piece). x ++ r) e ∙ ap (λ (x : List Piece). q ++ x) f
+
+work_same : (work : Table → Table → List Piece) {a b t u : Table} → a ≡ b → t ≡ u → work a t ≡ work b u
+work_same work {b = b} {t = t} e f = ap (λ (x : Table). work x t) e ∙ ap (work b) f
+
 -- ---- formulas
 -- where the named words have their tables, a formula has the table of its side
 side_of_words : (c : Circuit) (s : Specification) (ts : List Table) (f : Formula) →
@@ -66,6 +77,15 @@ side_of_words c s ts (product a b) all =
     ap (λ t. times t (formula_table (length s.order) ts b)) (side_of_words c s ts a (λ w has. all w (Contains-append_left (namings a) (namings b) w has)))
     ∙ ap (times (side c s a)) (side_of_words c s ts b (λ w has. all w (Contains-append_right (namings a) (namings b) w has))) ∙ sym (formula_tables.of_product c s a b)
 
+-- the tables of the edges of named words are those of the words' sides
+words_have_tables : (c : Circuit) (s : Specification) (v : View) (words : List Edge) (f : Formula) (built : ℕ → Bool) → length words ≡ length s.words →
+    (h : AreBuilt v (λ i. side c s (word i)) built words) → ((i : ℕ) → Contains (namings f) i → (i < length s.words) × (built i ≡ true)) →
+    (i : ℕ) → Contains (namings f) i → slice_index_or (tables_of v words h.good) i (entry (pos 0)) ≡ side c s (word i)
+words_have_tables c s v words f built many h named i has =
+    let known = named i has in
+    let low : i < length words = rw many known.0 in
+    tables_at v words h.good i no_edge (entry (pos 0)) (side c s (word i)) low (h.stand i no_edge low known.1)
+
 -- an expression over the edges of words stands for the side
 pub side_stands : (c : Circuit) (s : Specification) (v w : View) (words : List Edge) (e : Edge) (f : Formula) (built : ℕ → Bool) → IsWellFormed s → v.letters ≡ s.letters →
     length words ≡ length s.words → AreBuilt v (λ i. side c s (word i)) built words → ((i : ℕ) → Contains (namings f) i → (i < length s.words) × (built i ≡ true)) →
@@ -76,14 +96,49 @@ side_stands c s v w words e f built good letters many h named made =
     levels : length v.letters ≡ length s.order
     levels = ap length letters ∙ good.one_letter_each
 
-    at : (i : ℕ) → Contains (namings f) i → slice_index_or (tables_of v words h.good) i (entry (pos 0)) ≡ side c s (word i)
-    at i has =
-        let known = named i has in
-        let low : i < length words = rw many known.0 in
-        tables_at v words h.good i e (entry (pos 0)) (side c s (word i)) low (h.stand i e low known.1)
-
     same : formula_table (length v.letters) (tables_of v words h.good) f ≡ side c s f
-    same = ap (λ (n : ℕ). formula_table n (tables_of v words h.good) f) levels ∙ side_of_words c s (tables_of v words h.good) f at
+    same =
+        ap (λ (n : ℕ). formula_table n (tables_of v words h.good) f) levels
+        ∙ side_of_words c s (tables_of v words h.good) f (words_have_tables c s v words f built many h named)
+
+-- the same of the work
+work_of_words : (c : Circuit) (s : Specification) (ds : List Decomp) (ts : List Table) (f : Formula) →
+    ((w : ℕ) → Contains (namings f) w → slice_index_or ts w (entry (pos 0)) ≡ side c s (word w)) →
+    formula_work ds 0 (formula_table (length s.order) ts) f ≡ formula_work ds 0 (side c s) f
+work_of_words c s ds ts (number z) all = ap (λ (t : Table). pieces 0 (t ∷ [])) (side_of_words c s ts (number z) all)
+work_of_words c s ds ts (word w) all = refl
+work_of_words c s ds ts (negative a) all =
+    both_same (work_of_words c s ds ts a all) (ap (neg_work 0) (side_of_words c s ts a all))
+work_of_words c s ds ts (sum a b) all =
+    let left = λ (w : ℕ) (has : Contains (namings a) w). all w (Contains-append_left (namings a) (namings b) w has) in
+    let right = λ (w : ℕ) (has : Contains (namings b) w). all w (Contains-append_right (namings a) (namings b) w has) in
+    both_same (both_same (work_of_words c s ds ts a left) (work_of_words c s ds ts b right))
+    (work_same (add_work 0) (side_of_words c s ts a left) (side_of_words c s ts b right))
+work_of_words c s ds ts (difference a b) all =
+    let left = λ (w : ℕ) (has : Contains (namings a) w). all w (Contains-append_left (namings a) (namings b) w has) in
+    let right = λ (w : ℕ) (has : Contains (namings b) w). all w (Contains-append_right (namings a) (namings b) w has) in
+    both_same (both_same (work_of_words c s ds ts a left) (work_of_words c s ds ts b right))
+    (work_same (sub_work 0) (side_of_words c s ts a left) (side_of_words c s ts b right))
+work_of_words c s ds ts (product a b) all =
+    let left = λ (w : ℕ) (has : Contains (namings a) w). all w (Contains-append_left (namings a) (namings b) w has) in
+    let right = λ (w : ℕ) (has : Contains (namings b) w). all w (Contains-append_right (namings a) (namings b) w has) in
+    both_same (both_same (work_of_words c s ds ts a left) (work_of_words c s ds ts b right))
+    (work_same (mul_work ds 0) (side_of_words c s ts a left) (side_of_words c s ts b right))
+
+-- the causes of a call on an expression are those of the side's work
+pub side_caused : {X : Type 0} (c : Circuit) (s : Specification) (v w : View) (words : List Edge) (f : Formula) (built : ℕ → Bool) (r : Result X Limit) → IsWellFormed s →
+    v.letters ≡ s.letters → length words ≡ length s.words → AreBuilt v (λ i. side c s (word i)) built words →
+    ((i : ℕ) → Contains (namings f) i → (i < length s.words) × (built i ≡ true)) →
+    CausesOfAll (λ l ts. formula_work (drop l v.letters) l (formula_table (length (drop l v.letters)) ts) f) v w words r →
+    Causes v w (formula_work s.letters 0 (side c s) f) r
+side_caused c s v w words f built r good letters many h named call =
+    subst (λ (qs : List Piece). Causes v w qs r) same (call.causes 0 (tables_of v words h.good) (omega arith) (tables_stand v words h.good))
+  where
+    same : formula_work v.letters 0 (formula_table (length v.letters) (tables_of v words h.good)) f ≡ formula_work s.letters 0 (side c s) f
+    same =
+        ap (λ (ds : List Decomp). formula_work ds 0 (formula_table (length ds) (tables_of v words h.good)) f) letters
+        ∙ ap (λ (n : ℕ). formula_work s.letters 0 (formula_table n (tables_of v words h.good)) f) good.one_letter_each
+        ∙ work_of_words c s s.letters (tables_of v words h.good) f (words_have_tables c s v words f built many h named)
 
 -- ---- words
 sized_there : (words : List Word) (w : ℕ) → All IsSizedWord words → w < length words → 0 < length (nets_of words w)

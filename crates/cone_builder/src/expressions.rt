@@ -1,11 +1,15 @@
-ghost use Rattle.std.specs.Prelude.{◌≡◌, ℕ, ◌<◌, ◌≤◌, true, List, [], ◌∷◌, length, All, Contains, IfOk, OnOk};
+ghost use Rattle.std.specs.Prelude.{◌≡◌, ℕ, ◌<◌, ◌≤◌, true, List, [], ◌∷◌, length, flat_map, All, Contains, IfOk, OnOk, IfSome, Some, slice_get};
+ghost use Rattle.checks.specs.Forward.{building_work, gate_work_of, input_work};
 ghost use Rattle.cone_builder.specs.Built.{AreBuilt, AreGates, AreVariables, ComeAfter, NetsAreBuilt, is_marked, or_listed};
 ghost use Rattle.cone_builder.specs.Causes.{Includes, limit_met, net_work};
 ghost use Rattle.cone_builder.specs.Sides.{AreSides};
 ghost use Rattle.diagram.specs.Causes.{Causes};
 ghost use Rattle.diagram.specs.View.{View, Keeps};
 ghost use Rattle.netlist.specs.Circuit.{IsGate, input_count, net_count};
+ghost use Rattle.netlist.specs.Cone.{cone};
 ghost use Rattle.netlist.specs.Nets.{IsSound};
+ghost use Rattle.spec_lang.specs.Named.{nets_named};
+ghost use Rattle.spec_lang.specs.Specification.{Check};
 ghost use Rattle.spec_lang.specs.WellFormed.{IsOver};
 ghost use Rattle.tables.specs.Pieces.{Piece, pieces};
 ghost use Rattle.tables.specs.Table.{Table};
@@ -69,6 +73,8 @@ fn build_nets(
     requires check { check < length spec.now.checks }
     ensures keeps { Keeps builder.old builder.new }
     ensures built { IfOk result (λ edges. NetsAreBuilt netlist.now spec.now check builder.new edges.items) }
+    ensures causes { (sides : Check) (ps : List Piece) → slice_get spec.now.checks check ≡ Some sides → Includes ps (input_work netlist.now spec.now sides) →
+        Includes ps (flat_map (gate_work_of netlist.now spec.now) (cone netlist.now (nets_named spec.now sides))) → Causes builder.old builder.new ps (limit_met result) }
 {
     let count = netlist.inputs() as usize + netlist.gates() as usize;
     let named = spec.named(check)?;
@@ -101,6 +107,7 @@ pub fn build_one(
     requires check { check < length spec.now.checks }
     ensures keeps { Keeps builder.old builder.new }
     ensures sides { IfOk result (λ sides. AreSides netlist.now spec.now check builder.new sides.0 sides.1) }
+    ensures causes { IfSome (slice_get spec.now.checks check) (λ sides. Causes builder.old builder.new (building_work netlist.now spec.now sides) (limit_met result)) }
 {
     let nets = build_nets(alloc, builder, netlist, spec, check)?;
     let numbers = spec.words_named(check)?;

@@ -21,7 +21,7 @@ later : {A B C : Type 0} → A ⊎ B → (B → C) → A ⊎ C
 later (inl a) f = inl a
 later (inr b) f = inr (f b)
 
-filter-has : (p : ℕ → Bool) (xs : List ℕ) (x : ℕ) → Contains xs x → p x ≡ true → Contains (filter p xs) x
+pub filter-has : (p : ℕ → Bool) (xs : List ℕ) (x : ℕ) → Contains xs x → p x ≡ true → Contains (filter p xs) x
 filter-has p [] x has passes = absurd (Contains-nil x has)
 filter-has p (y ∷ ys) x has passes =
     kept-has p y (filter p ys) x (p y) refl passes (later (Contains-cases y ys x has) (λ more. filter-has p ys x more passes))

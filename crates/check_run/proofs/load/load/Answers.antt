@@ -1,5 +1,4 @@
 use Rattle.std.proofs.Common.{map, List, ℕ, Bor}
-use Rattle.check_run.specs.Words.{Names}
 use Rattle.check_run.proofs.LoadLaws.{netlist_stopped, spec_stopped}
 use Rattle.check_run.proofs.load.load.Goals as goal
 
