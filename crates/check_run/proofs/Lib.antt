@@ -1,3 +1,4 @@
+pub mod AnswerLaws
 pub mod DecideLaws
 pub mod LimitLaws
 pub mod LoadLaws

@@ -1,9 +1,11 @@
 ghost use Rattle.std.specs.Prelude.{◌≡◌, ◌⊎◌, ℕ, ◌≤◌, [], ◌∷◌, map, IfOk, IfErr, IsTrue, string_bytes};
 ghost use Rattle.check_run.specs.Halted.{IsHalted};
 ghost use Rattle.check_run.specs.Loaded.{RoseForSome};
-ghost use Rattle.check_run.specs.Run.{PutsAll, PutsPart, Says, is_written};
+ghost use Rattle.check_run.specs.Run.{Accepts, Answers, MeetsNoLimit, PutsAll, PutsPart, Says, is_written};
 ghost use Rattle.checks.specs.Report.{status_of};
+ghost use Rattle.netlist.specs.Circuit.{Circuit};
 ghost use Rattle.report.specs.Verdicts.{plain};
+ghost use Rattle.spec_lang.specs.Specification.{Check, Specification};
 
 use crate::decide::decide;
 use crate::load::load;
@@ -64,6 +66,10 @@ pub fn run<F: Shelf, O: Sink, G: Gate>(
 ) -> Status
     ensures files { F.files shelf.new ≡ F.files shelf.old }
     ensures written { IsTrue (is_written result) → PutsAll (map (λ w. w.now) words.now) (F.files shelf.old) (O.written out.old) (O.written out.new) result }
+
+    // where both files are taken and no limit has its cause, that is the line of the answer
+    ensures answered { (c : Circuit) (s : Specification) (check : Check) → Accepts (map (λ w. w.now) words.now) (F.files shelf.old) c s check →
+        MeetsNoLimit c s check → IsTrue (is_written result) → Answers c s check (O.written out.old) (O.written out.new) result }
 
     // nothing is written after a fault of reading
     ensures read_fault { result ≡ Status.ReadFault → RoseForSome (map (λ w. w.now) words.now) (F.files shelf.old) (F.faults shelf.old) (F.faults shelf.new) }

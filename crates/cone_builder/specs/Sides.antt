@@ -1,5 +1,5 @@
 -- What the edges of a check's sides stand for, and why they were not built.
-use Rattle.std.specs.Prelude.{IfSome, slice_get, ℕ}
+use Rattle.std.specs.Prelude.{◌≡◌, IfSome, List, codes, slice_get, ℕ, refl}
 use Rattle.netlist.specs.Circuit.{Circuit}
 use Rattle.spec_lang.specs.Specification.{Specification}
 use Rattle.checks.specs.Sides.{side}
@@ -18,3 +18,11 @@ AreSides c s number v left right =
 abbrev pub build_error_of : Limit → BuildError
 build_error_of limit.Overflow = error.Overflow
 build_error_of limit.Full = error.Full
+
+abbrev pub build_error_text : BuildError → List ℕ
+build_error_text error.Overflow = codes "a number needs more than 127 bits"
+build_error_text error.Full = codes "the store of nodes is full"
+build_error_text error.Memory = codes "out of memory"
+
+text-of_memory : build_error_text error.Memory ≡ codes "out of memory"
+text-of_memory = refl

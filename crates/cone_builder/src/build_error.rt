@@ -2,6 +2,7 @@ ghost use Rattle.std.specs.Prelude.{◌≡◌};
 
 use diagram::Limit;
 use std::alloc::AllocError;
+use std::fmt;
 
 /// Why the sides of a check were not built.
 #[derive(Clone, Copy, Debug, PartialEq, Eq)]
@@ -36,3 +37,20 @@ impl From<AllocError> for BuildError {
         BuildError::Memory
     }
 }
+
+impl fmt::Display for BuildError {
+    ghost use Rattle.std.specs.Prelude.{Some};
+    ghost use Rattle.cone_builder.specs.Sides.{build_error_text};
+
+    ghost output = { λ error. Some (build_error_text error) };
+
+    fn fmt<W: fmt::Write>(&self, f: &mut fmt::Formatter<W>) -> fmt::Result {
+        match self {
+            BuildError::Overflow => write!(f, "a number needs more than 127 bits"),
+            BuildError::Full => write!(f, "the store of nodes is full"),
+            BuildError::Memory => write!(f, "out of memory"),
+        }
+    }
+}
+
+impl std::error::Error for BuildError {}
