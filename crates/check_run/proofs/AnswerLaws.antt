@@ -20,7 +20,7 @@ use Rattle.check_run.specs.Loaded.{Files, IsLoaded, IsRefused, IsText, SaysNetli
 use Rattle.check_run.specs.Run.{Accepts, Answers, IsToldText, MeetsNoLimit, PutsAll, Reports}
 use Rattle.check_run.specs.Words.{Names, names_of}
 
-some_is : {X : Type 0} {x y : X} → Some x ≡ Some y → x ≡ y
+pub some_is : {X : Type 0} {x y : X} → Some x ≡ Some y → x ≡ y
 some_is e = cc
 
 same_circuit : (text other : List ℕ) (c d : Circuit) → reading text ≡ Ok c → reading other ≡ Ok d → other ≡ text → d ≡ c
@@ -76,7 +76,7 @@ same_loaded words files c d s t check takes loaded =
 -- a verdict that is no limit is the answer
 no_limit : (c : Circuit) (s : Specification) (check : Check) (verdict : Verdict) → MeetsNoLimit c s check → IsVerdictOf c s check verdict → verdict ≡ answer Hdd c s check
 no_limit c s check (equal nodes) free is = is
-no_limit c s check (different left right at) free is = is
+no_limit c s check (different left right at) free (_, _, is) = is
 no_limit c s check overflow free is = absurd (let none = free.not_over in cc)
 no_limit c s check full free is = absurd (let none = free.not_short in cc)
 

@@ -1,14 +1,19 @@
 -- From the edges of both sides to the verdict.
 use Rattle.std.proofs.Common.{◌≡◌, refl, sym, ◌∙◌, ap, subst, ℕ, zero, suc, ℤ, Bool, true, false, List, [], ◌∷◌, length}
-use Rattle.std.specs.Prelude.{IfSome, Option, Some, None, slice_get}
+use Rattle.std.specs.Prelude.{◌&&◌, ◌^◌, IfSome, Option, Some, None, slice_get, unsigned_abs}
+use Rattle.std.proofs.lemmas.Bool.{ltb-true}
 use Rattle.std.specs.Option.{option_map_or}
 use Rattle.word_base.specs.declared.kind_name.KindName.TheVariants.{Hdd}
+use Rattle.word_base.specs.Range.{InRange}
 use Rattle.netlist.specs.Circuit.{Circuit}
 use Rattle.spec_lang.specs.Placed.{net_values}
-use Rattle.spec_lang.specs.Specification.{Check, Specification}
-use Rattle.spec_lang.specs.Value.{value}
+use Rattle.spec_lang.specs.Formula.{Formula}
+use Rattle.spec_lang.specs.Specification.{Check, Specification, Word}
+use Rattle.spec_lang.specs.Value.{all_in_range, value}
+use Rattle.spec_lang.proofs.Values.{whole_in_range}
 use Rattle.tables.specs.Canonical.{node_count}
 use Rattle.tables.specs.Table.{tabulate}
+use Rattle.tables.proofs.TreeLaws.{and_left, and_right}
 use Rattle.checks.specs.Answer.{Difference, answer, entry_at, equal, different, first_difference}
 use Rattle.checks.specs.Limits.{over, short}
 use Rattle.checks.specs.declared.method.Method.TheVariants.{Forward}
@@ -54,11 +59,18 @@ entry_of_tabulate (suc n) f [] many = absurd (cc)
 entry_of_tabulate (suc n) f (false ∷ bits) many = entry_of_tabulate n (λ more. f (false ∷ more)) bits (cc)
 entry_of_tabulate (suc n) f (true ∷ bits) many = entry_of_tabulate n (λ more. f (true ∷ more)) bits (cc)
 
+-- a value whose parts are weights is one
+value_in_range : (words : List Word) (values : List Bool) (f : Formula) (z : ℤ) → z ≡ value words values f → all_in_range words values f ≡ true → InRange z
+value_in_range words values f z is fits =
+    subst InRange (sym is) (ltb-true (unsigned_abs (value words values f)) (2 ^ 127) (whole_in_range words values f fits))
+
 -- the values at the bits of the first difference are those of the answer
 pub different_decided : (c : Circuit) (s : Specification) (place : ℕ) (check : Check) (d : Difference) (left right : ℤ) (at : List Bool) → slice_get s.checks place ≡ Some check →
     first_difference (side c s check.left) (side c s check.right) ≡ Some d → at ≡ d.at →
-    left ≡ value s.words (net_values c s at) check.left → right ≡ value s.words (net_values c s at) check.right → IsDecided c s place (Different left right at)
-different_decided c s place check d left right at is found at_is left_is right_is =
+    (all_in_range s.words (net_values c s at) check.left && all_in_range s.words (net_values c s at) check.right) ≡ true →
+    left ≡ value s.words (net_values c s at) check.left → right ≡ value s.words (net_values c s at) check.right →
+    IsDecided c s place (Different left right at)
+different_decided c s place check d left right at is found at_is fits left_is right_is =
     let t = side c s check.left in
     let u = side c s check.right in
     let n = length s.order in
@@ -70,8 +82,10 @@ different_decided c s place check d left right at is found at_is left_is right_i
     let r : right ≡ d.right =
     right_is ∙ ap (λ b. value s.words (net_values c s b) check.right) at_is
     ∙ sym (entry_of_tabulate n (λ b. value s.words (net_values c s b) check.right) bits first.full) ∙ first.right in
+    let low : all_in_range s.words (net_values c s at) check.left ≡ true = and_left (all_in_range s.words (net_values c s at) check.left) (all_in_range s.words (net_values c s at) check.right) fits in
+    let high : all_in_range s.words (net_values c s at) check.right ≡ true = and_right (all_in_range s.words (net_values c s at) check.left) (all_in_range s.words (net_values c s at) check.right) fits in
     decided_at c s place 0 check (Different left right at) is
-    (ap (λ x. different x right at) l ∙ ap (λ x. different d.left x at) r ∙ ap (different d.left d.right) at_is ∙ answer_of c s check (Some d) found)
+    (value_in_range s.words (net_values c s at) check.left left left_is low, value_in_range s.words (net_values c s at) check.right right right_is high, ap (λ x. different x right at) l ∙ ap (λ x. different d.left x at) r ∙ ap (different d.left d.right) at_is ∙ answer_of c s check (Some d) found)
 
 -- what the edges of the sides stand for
 pub sides_at : (c : Circuit) (s : Specification) (place : ℕ) (check : Check) (v : View) (left right : Edge) → slice_get s.checks place ≡ Some check →

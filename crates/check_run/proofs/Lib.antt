@@ -1,5 +1,6 @@
 pub mod AnswerLaws
 pub mod DecideLaws
+pub mod Examples
 pub mod LimitLaws
 pub mod LoadLaws
 pub mod UsualLaws

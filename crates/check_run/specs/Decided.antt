@@ -3,6 +3,7 @@ use Rattle.std.specs.Prelude.{◌≡◌, ℕ, true, IfSome, slice_get}
 use Rattle.netlist.specs.Circuit.{Circuit}
 use Rattle.spec_lang.specs.Specification.{Check, Specification}
 use Rattle.word_base.specs.declared.kind_name.KindName.TheVariants.{Hdd}
+use Rattle.word_base.specs.Range.{InRange}
 use Rattle.checks.specs.Limits.{over, short}
 use Rattle.checks.specs.declared.method.Method.TheVariants.{Forward}
 use Rattle.checks.specs.Answer as checks
@@ -14,12 +15,14 @@ use Rattle.report.specs.declared.verdict.Verdict.{Verdict}
 abbrev pub cells : ℕ
 cells = 262144
 
--- an overflow only where the check is over the range of weights, a full store only where it is short of cells, and the answer
+-- An overflow only where the check is over the range of weights, a full store only where it is short of cells, and the
+-- answer, whose values are weights
 abbrev pub IsVerdictOf : Circuit → Specification → Check → checks.Verdict → Type 0
 IsVerdictOf c s check checks.overflow = over Hdd Forward c s check ≡ true
 IsVerdictOf c s check checks.full = short Hdd Forward 1 cells c s check ≡ true
 IsVerdictOf c s check (checks.equal nodes) = checks.equal nodes ≡ answer Hdd c s check
-IsVerdictOf c s check (checks.different left right at) = checks.different left right at ≡ answer Hdd c s check
+IsVerdictOf c s check (checks.different left right at) =
+    InRange left × InRange right × (checks.different left right at ≡ answer Hdd c s check)
 
 -- the same of the check of a number
 abbrev pub IsReported : Circuit → Specification → ℕ → checks.Verdict → Type 0

@@ -1,5 +1,5 @@
 -- What the two files say, and why they are not taken. `files` are those that the shelf tells.
-use Rattle.std.specs.Prelude.{◌≡◌, ℕ, ◌≤◌, List, length, Option, Some, None, Ok, Err, Contains}
+use Rattle.std.specs.Prelude.{◌≡◌, ◌⊎◌, ℕ, ◌≤◌, List, length, Option, Some, None, Ok, Err}
 use Rattle.netlist.specs.Circuit.{Circuit}
 use Rattle.bench_reader.specs.Reading.{reading}
 use Rattle.spec_lang.specs.Specification.{Specification}
@@ -66,9 +66,12 @@ IsRefused words files refusal.SpecTooLong =
 IsRefused words files refusal.Spec =
     (names : Names) × (names_of words ≡ Some names) × (c : Circuit) × SaysNetlist files names.netlist c × RefusesSpec files names.spec c refusal.Spec
 
--- the shelf's count of faults rose, or it has no file of one of the words
-abbrev pub RoseForSome : List (List ℕ) → Files → ℕ → ℕ → Type 0
-RoseForSome words files before now = (name : List ℕ) × Contains words name × ShelfRose files name before now
+-- The words name two files, and one could not be read: the netlist's, or the specification's where the netlist is taken. The
+-- shelf's count of faults rose, or the shelf has no file of that name
+abbrev pub FailsToRead : List (List ℕ) → Files → ℕ → ℕ → Type 0
+FailsToRead words files before now =
+    (names : Names) × (names_of words ≡ Some names)
+    × (ShelfRose files names.netlist before now ⊎ ((c : Circuit) × SaysNetlist files names.netlist c × ShelfRose files names.spec before now))
 
 -- why a file was not fetched and read
 abbrev pub IsFileStop : (Refusal → Type 0) → Files → List ℕ → ℕ → ℕ → Stop → Type 0
@@ -79,5 +82,5 @@ IsFileStop Refuses files name before now stop.Memory = Unit {0}
 -- why nothing is decided. Want of memory says nothing
 abbrev pub IsStopped : List (List ℕ) → Files → ℕ → ℕ → Stop → Type 0
 IsStopped words files before now (stop.Refused r) = IsRefused words files r
-IsStopped words files before now stop.ReadFault = RoseForSome words files before now
+IsStopped words files before now stop.ReadFault = FailsToRead words files before now
 IsStopped words files before now stop.Memory = Unit {0}

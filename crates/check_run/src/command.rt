@@ -1,6 +1,6 @@
 ghost use Rattle.std.specs.Prelude.{◌≡◌, ◌⊎◌, ℕ, ◌≤◌, [], ◌∷◌, map, IfOk, IfErr, IsTrue, string_bytes};
 ghost use Rattle.check_run.specs.Halted.{IsHalted};
-ghost use Rattle.check_run.specs.Loaded.{RoseForSome};
+ghost use Rattle.check_run.specs.Loaded.{FailsToRead};
 ghost use Rattle.check_run.specs.Run.{Accepts, Answers, MeetsNoLimit, PutsAll, PutsPart, Says, is_written};
 ghost use Rattle.checks.specs.Report.{status_of};
 ghost use Rattle.netlist.specs.Circuit.{Circuit};
@@ -35,6 +35,7 @@ fn status_of(verdict: &Verdict) -> Status
 /// The line that the words and the files lead to.
 fn prepare<F: Shelf>(alloc: Global, words: &[&str], shelf: &mut F) -> Result<Said, Halt>
     ensures files { F.files shelf.new ≡ F.files shelf.old }
+    ensures later { F.faults shelf.old ≤ F.faults shelf.new }
     ensures said { IfOk result (λ said. Says (map (λ w. w.now) words.now) (F.files shelf.old) (string_bytes said.text) said.status) }
     ensures halted { IfErr result (λ halt. IsHalted (map (λ w. w.now) words.now) (F.files shelf.old) (F.faults shelf.old) (F.faults shelf.new) halt) }
 {
@@ -64,15 +65,20 @@ pub fn run<F: Shelf, O: Sink, G: Gate>(
     out: &mut O,
     _gate: &G,
 ) -> Status
+    // the shelf's files stay, and no count of faults falls
     ensures files { F.files shelf.new ≡ F.files shelf.old }
+    ensures read_later { F.faults shelf.old ≤ F.faults shelf.new }
+    ensures write_later { O.faults out.old ≤ O.faults out.new }
+
+    // one line is written whole: that of a refusal or of a verdict which has its cause
     ensures written { IsTrue (is_written result) → PutsAll (map (λ w. w.now) words.now) (F.files shelf.old) (O.written out.old) (O.written out.new) result }
 
     // where both files are taken and no limit has its cause, that is the line of the answer
     ensures answered { (c : Circuit) (s : Specification) (check : Check) → Accepts (map (λ w. w.now) words.now) (F.files shelf.old) c s check →
         MeetsNoLimit c s check → IsTrue (is_written result) → Answers c s check (O.written out.old) (O.written out.new) result }
 
-    // nothing is written after a fault of reading
-    ensures read_fault { result ≡ Status.ReadFault → RoseForSome (map (λ w. w.now) words.now) (F.files shelf.old) (F.faults shelf.old) (F.faults shelf.new) }
+    // a fault of reading, after which nothing is written, or of writing
+    ensures read_fault { result ≡ Status.ReadFault → FailsToRead (map (λ w. w.now) words.now) (F.files shelf.old) (F.faults shelf.old) (F.faults shelf.new) }
     ensures nothing { (result ≡ Status.ReadFault) ⊎ (result ≡ Status.NoMemory) → O.written out.new ≡ O.written out.old }
     ensures write_fault { result ≡ Status.WriteFault → PutsPart (map (λ w. w.now) words.now) (F.files shelf.old) (O.written out.old) (O.written out.new) (O.faults out.old) (O.faults out.new) }
 {

@@ -81,6 +81,7 @@ pub(crate) fn load<F: Shelf>(
     shelf: &mut F,
 ) -> Result<(Netlist, Spec), Stop>
     ensures files { F.files shelf.new ≡ F.files shelf.old }
+    ensures later { F.faults shelf.old ≤ F.faults shelf.new }
     ensures loaded { IfOk result (λ both. IsLoaded (map (λ w. w.now) words.now) (F.files shelf.old) both.0 both.1) }
     ensures over { IfOk result (λ both. IsOver both.0 both.1) }
     ensures usual { IfOk result (λ both. IsUsual both.1) }

@@ -160,3 +160,32 @@ fn faults_outside_are_told(rt: HostRuntime) -> Result<(), Fail> {
     assert_eq!(rt; answer, (5, true), "a sink of five bytes");
     Ok(())
 }
+
+#[test]
+fn a_file_is_read_only_in_its_turn(rt: HostRuntime) -> Result<(), Fail> {
+    let mut shelf = shelf_of(rt.alloc(), HALF.as_bytes(), HALF_SPEC.as_bytes())?;
+    shelf.fail(3)?;
+    let answer = outcome(rt.alloc(), WORDS, &mut shelf, 1000, "check 1 equal\n")?;
+    assert_eq!(rt; answer, (0, true), "a third fetch, which no run makes");
+
+    let mut shelf = shelf_of(rt.alloc(), b"INPUT(a)\nz = AND(a", HALF_SPEC.as_bytes())?;
+    let line = "refused netlist 2 bad-line\n";
+    let absent = ["check", "--kind", "hdd", "n", "absent"];
+    let answer = outcome(rt.alloc(), &absent, &mut shelf, 1000, line)?;
+    assert_eq!(rt;
+        answer,
+        (2, true),
+        "the netlist is refused before the specification is read"
+    );
+    shelf.fail(3)?;
+    let answer = outcome(rt.alloc(), WORDS, &mut shelf, 1000, line)?;
+    assert_eq!(rt;
+        answer,
+        (2, true),
+        "the second fetch is the second run's first"
+    );
+    shelf.file("n", HALF.as_bytes())?;
+    let answer = outcome(rt.alloc(), WORDS, &mut shelf, 1000, "")?;
+    assert_eq!(rt; answer, (4, true), "the third is the third run's first");
+    Ok(())
+}

@@ -47,7 +47,7 @@ returns-in-Ok c =
     (λ sides. IsEvaluated (Ok c.in-Ok.values) (all_in_range words values sides.left && all_in_range words values sides.right) (value words values sides.left, value words values sides.right))
     found.1 c.in-Ok.ensures in
     different_decided c.args.netlist.now c.args.spec.now c.args.check found.0 first.difference c.in-Ok.values.0 c.in-Ok.values.1 at found.1 first.found first.at
-    (ap (λ p. p.0) told.1) (ap (λ p. p.1) told.1)
+    told.0 (ap (λ p. p.0) told.1) (ap (λ p. p.1) told.1)
 
 pub returns-in-Err-Overflow : goal.returns-in-Err-Overflow
 returns-in-Err-Overflow c =
