@@ -11,6 +11,9 @@ use std::io::ErrorKind;
 use std::process::ExitCode;
 use std::rt::Files;
 
+#[cfg(test)]
+mod tests;
+
 /// Runs the command of these words over the real files and standard output.
 fn answer<R: Files + Print + Copy>(
     rt: R,
