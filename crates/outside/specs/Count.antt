@@ -1,5 +1,5 @@
 -- Counts of faults, and the cause of a failure.
-use Rattle.std.specs.Prelude.{◌≡◌, ℕ, ◌+◌, ◌-◌, ◌^◌, ◌≤◌, min, refl}
+use Rattle.std.specs.Prelude.{◌≡◌, ℕ, ◌+◌, ◌-◌, ◌^◌, ◌≤◌, min, Bool, true, false, if◌then◌else◌, refl}
 use Rattle.std.proofs.Common.{lit≤}
 
 -- the greatest count. One that has reached it stays there
@@ -15,6 +15,16 @@ raised-three = refl
 
 raised-last : raised last_count ≡ last_count
 raised-last = refl
+
+-- the count after a call that met a fault, or met none
+abbrev pub counted : Bool → ℕ → ℕ
+counted fault count = if fault then raised count else count
+
+counted-fault : counted true 3 ≡ 4
+counted-fault = refl
+
+counted-none : counted false 3 ≡ 3
+counted-none = refl
 
 -- the count rose, or stands at its last value
 abbrev pub Rose : ℕ → ℕ → Type 0

@@ -1,7 +1,9 @@
 -- What a fetch gives. A shelf's files are the bytes of each name, where there are any, or `None` where the shelf does not tell.
-use Rattle.std.specs.Prelude.{◌≡◌, ℕ, ◌≤◌, ◌<◌, ◌⊎◌, List, ◌++◌, length, Option, Some, None, codes, unwrap_or, refl}
+use Rattle.std.specs.Prelude.{◌≡◌, ℕ, ◌≤◌, ◌<◌, ◌⊎◌, Bool, true, false, List, ◌++◌, length, Option, Some, None, Result, Ok, Err, codes, unwrap_or, refl}
 use Rattle.std.proofs.Common.{ap, sym, lit≤}
 use Rattle.outside.specs.Count.{Rose}
+use Rattle.outside.specs.declared.shelf.FetchError.{FetchError}
+use Rattle.outside.specs.declared.shelf.FetchError.TheVariants.{Failed, TooLong, Memory}
 
 -- what the shelf tells of a name: nothing, that there is no such file, or its bytes
 abbrev pub told : Option (List ℕ → Option (List ℕ)) → List ℕ → Option (Option (List ℕ))
@@ -49,3 +51,16 @@ IsLonger of_name limit = (file : Option (List ℕ)) → of_name ≡ Some file �
 
 longer-ab : IsLonger (Some (Some (codes "ab"))) 1
 longer-ab = λ file same. (codes "ab", ap (λ known. unwrap_or known None) (sym same), lit≤ tt)
+
+-- the fetch answered `Failed`
+abbrev pub is_failed : {T : Type 0} → Result T FetchError → Bool
+is_failed (Ok _) = false
+is_failed (Err Failed) = true
+is_failed (Err TooLong) = false
+is_failed (Err Memory) = false
+
+is_failed-failed : is_failed {T = ℕ} (Err Failed) ≡ true
+is_failed-failed = refl
+
+is_failed-too_long : is_failed {T = ℕ} (Err TooLong) ≡ false
+is_failed-too_long = refl

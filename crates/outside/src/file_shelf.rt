@@ -1,5 +1,6 @@
-ghost use Rattle.std.specs.Prelude.{◌≡◌, ℕ, List, ◌++◌, None, OnOk, OnErr};
-ghost use Rattle.outside.specs.Shelf.{AppendsFile};
+ghost use Rattle.std.specs.Prelude.{◌≡◌, ℕ, List, ◌++◌, None, OnOk, OnErr, IsErrOf};
+ghost use Rattle.outside.specs.Count.{HasCause, counted};
+ghost use Rattle.outside.specs.Shelf.{ShelfRose, AppendsFile, is_failed};
 
 use crate::{FetchError, Shelf};
 use std::fs;
@@ -36,7 +37,14 @@ impl<R: Files> Shelf for FileShelf<R> {
 
     ghost faults = { λ s. s };
 
-    fn fetch(&mut self, name: &str, limit: usize, into: &mut Vec<u8>) -> Result<(), FetchError> {
+    fn fetch(&mut self, name: &str, limit: usize, into: &mut Vec<u8>) -> Result<(), FetchError>
+        ensures ok { OnOk result (AppendsFile None limit into.old.items into.new.items) }
+        ensures err { OnErr result (into.new.items ≡ into.old.items) }
+        ensures cause { HasCause (ShelfRose None name.now) self.old self.new (IsErrOf result FetchError.Failed) }
+
+        // The count rises exactly where it answers `Failed`.
+        ensures after { self.new ≡ counted (is_failed result) self.old }
+    {
         let start = into.len();
         let fetched = match fs::open(&self.system, name) {
             Ok(mut file) => read_whole(&mut file, limit, into),

@@ -1,4 +1,5 @@
-ghost use Rattle.std.specs.Prelude.{◌≡◌, None};
+ghost use Rattle.std.specs.Prelude.{◌≡◌, None, IsErr, is_err};
+ghost use Rattle.outside.specs.Count.{Rose, HasCause, counted};
 
 use crate::{PutFailed, Sink};
 use std::io::ErrorKind;
@@ -33,7 +34,12 @@ impl<P: Print> Sink for StreamSink<P> {
 
     ghost faults = { λ s. s };
 
-    fn put(&mut self, bytes: &[u8]) -> Result<(), PutFailed> {
+    fn put(&mut self, bytes: &[u8]) -> Result<(), PutFailed>
+        ensures cause { HasCause Rose self.old self.new (IsErr result) }
+
+        // The count rises exactly where it fails.
+        ensures after { self.new ≡ counted (is_err result) self.old }
+    {
         if write_whole(&self.output, bytes) {
             return Ok(());
         }
