@@ -52,6 +52,14 @@ IsLonger of_name limit = (file : Option (List ℕ)) → of_name ≡ Some file �
 longer-ab : IsLonger (Some (Some (codes "ab"))) 1
 longer-ab = λ file same. (codes "ab", ap (λ known. unwrap_or known None) (sym same), lit≤ tt)
 
+-- what a reader of a file tells of it: the bytes that it has left
+abbrev pub file_left : Option (List ℕ) → Option (Option (List ℕ))
+file_left None = None
+file_left (Some bytes) = Some (Some bytes)
+
+file_left-ab : file_left (Some (codes "ab")) ≡ Some (Some (codes "ab"))
+file_left-ab = refl
+
 -- the fetch answered `Failed`
 abbrev pub is_failed : {T : Type 0} → Result T FetchError → Bool
 is_failed (Ok _) = false

@@ -1,6 +1,6 @@
 ghost use Rattle.std.specs.Prelude.{◌≡◌, ℕ, List, ◌++◌, None, OnOk, OnErr, IsErrOf};
 ghost use Rattle.outside.specs.Count.{HasCause, counted};
-ghost use Rattle.outside.specs.Shelf.{ShelfRose, AppendsFile, is_failed};
+ghost use Rattle.outside.specs.Shelf.{ShelfRose, AppendsFile, IsLonger, file_left, is_failed};
 
 use crate::{FetchError, Shelf};
 use std::fs;
@@ -61,9 +61,14 @@ impl<R: Files> Shelf for FileShelf<R> {
 }
 
 // Appends what is left of the file, piece by piece. After an `Err` a part of it may stand there.
-fn read_whole<F: Read>(file: &mut F, limit: usize, into: &mut Vec<u8>) -> Result<(), FetchError>
-    ensures ok { OnOk result (AppendsFile None limit into.old.items into.new.items) }
+pub(crate) fn read_whole<F: Read>(
+    file: &mut F,
+    limit: usize,
+    into: &mut Vec<u8>,
+) -> Result<(), FetchError>
+    ensures ok { OnOk result (AppendsFile (file_left (F.remaining file.old)) limit into.old.items into.new.items) }
     ensures err { OnErr result ((bytes : List ℕ) × (into.new.items ≡ into.old.items ++ bytes)) }
+    ensures too_long { IsErrOf result FetchError.TooLong → IsLonger (file_left (F.remaining file.old)) limit }
 {
     let mut left = limit;
     let mut piece = [0u8; 4096];

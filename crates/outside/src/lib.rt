@@ -3,7 +3,8 @@
 //! - `Shelf` gives files by their names, `Sink` takes bytes, `Gate` is told of the workers of a parallel build;
 //! - a shelf and a sink have a count of faults that never falls. A failure comes only where it rose in that very call;
 //! - `MemoryShelf` and `MemorySink` tell their contents, and fail exactly where they are asked to;
-//! - `FileShelf` and `StreamSink` stand over files and standard output. They tell no contents, and are trusted.
+//! - `FileShelf` and `StreamSink` stand over files and standard output, which tell no contents. Their counts are exact, and
+//!   their loops are proved for each reader and each writer that tells. What the system reads and writes is trusted.
 //!
 #![tactic(auto)]
 

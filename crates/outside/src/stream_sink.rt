@@ -1,8 +1,11 @@
-ghost use Rattle.std.specs.Prelude.{◌≡◌, None, IsErr, is_err};
+ghost use Rattle.std.specs.Prelude.{◌≡◌, None, OnOk, OnErr, IsErr, is_err};
+ghost use Rattle.std.specs.Io.KnownBytes.{Appends};
 ghost use Rattle.outside.specs.Count.{Rose, HasCause, counted};
+ghost use Rattle.outside.specs.Sink.{TakesPrefix};
 
 use crate::{PutFailed, Sink};
-use std::io::ErrorKind;
+use std::io;
+use std::io::{ErrorKind, Write};
 use std::marker::Model;
 
 /// Standard output as a sink. It does not tell what was written.
@@ -40,30 +43,33 @@ impl<P: Print> Sink for StreamSink<P> {
         // The count rises exactly where it fails.
         ensures after { self.new ≡ counted (is_err result) self.old }
     {
-        if write_whole(&self.output, bytes) {
-            return Ok(());
+        let put = write_whole(&mut io::writer(&self.output), bytes);
+        if put.is_err() {
+            self.faults = self.faults.saturating_add(1);
         }
-        self.faults = self.faults.saturating_add(1);
-        Err(PutFailed)
+        put
     }
 }
 
-// Writes the bytes piece by piece, and answers whether all of them were taken.
-fn write_whole<P: Print>(output: &P, bytes: &[u8]) -> bool {
+// Writes the bytes piece by piece: all of them, or those in front of a fault.
+pub(crate) fn write_whole<W: Write>(output: &mut W, bytes: &[u8]) -> Result<(), PutFailed>
+    ensures ok { OnOk result (Appends (W.contents output.old) (W.contents output.new) bytes.now) }
+    ensures err { OnErr result (TakesPrefix (W.contents output.old) (W.contents output.new) bytes.now) }
+{
     let mut rest = bytes;
     for _ in 0..u64::MAX {
         if rest.is_empty() {
-            return true;
+            return Ok(());
         }
-        match output.write_some(rest) {
-            Ok(0) => return false,
+        match output.write(rest) {
+            Ok(0) => return Err(PutFailed),
             Ok(taken) => rest = &rest[taken..],
             Err(e) => {
                 if e.kind() != ErrorKind::Interrupted {
-                    return false;
+                    return Err(PutFailed);
                 }
             }
         }
     }
-    false
+    Err(PutFailed)
 }

@@ -1,9 +1,13 @@
-ghost use Rattle.std.specs.Prelude.{◌≡◌, ◌++◌, List, ℕ, OnOk};
+ghost use Rattle.std.specs.Prelude.{◌≡◌, ◌≤◌, ◌++◌, List, ℕ, OnOk, IfOk};
 ghost use Rattle.outside.specs.Shelf.{Holds};
 
+use super::file_shelf::read_whole;
+use super::stream_sink::write_whole;
 use super::*;
-use std::fs;
+use std::alloc::{AllocError, Global};
+use std::io::{ErrorKind, Read, Write};
 use std::test::Fail;
+use std::{fs, io};
 
 // Code over a bound knows what the shelf tells: a file that is there comes whole.
 fn fetch_into<S: Shelf>(
@@ -24,6 +28,70 @@ fn put_into<S: Sink>(sink: &mut S, bytes: &[u8]) -> Result<(), PutFailed> {
 fn pass<G: Gate>(gate: &G, worker: u32) {
     gate.start(worker);
     gate.took(worker);
+}
+
+// How many bytes the calls are to take in turn, or how they fail. Behind these each takes all that it can.
+#[derive(Drop)]
+struct Pieces<'a> {
+    steps: &'a [Result<usize, ErrorKind>],
+}
+
+impl<'a> Pieces<'a> {
+    fn next(&mut self, most: usize) -> io::Result<usize>
+        ensures { IfOk result (λ count. count ≤ most) }
+    {
+        let Some((step, rest)) = self.steps.split_first() else {
+            return Ok(most);
+        };
+        self.steps = rest;
+        match step {
+            Ok(count) => Ok((*count).min(most)),
+            Err(kind) => Err(io::Error::from(*kind)),
+        }
+    }
+}
+
+#[derive(Drop)]
+struct PiecedFile<'a> {
+    left: &'a [u8],
+    pieces: Pieces<'a>,
+}
+
+impl<'a> Read for PiecedFile<'a> {
+    fn read(&mut self, buf: &mut [u8]) -> io::Result<usize> {
+        let most = buf.len().min(self.left.len());
+        let count = self.pieces.next(most)?;
+        buf[..count].copy_from_slice(&self.left[..count]);
+        self.left = &self.left[count..];
+        Ok(count)
+    }
+}
+
+#[derive(Drop)]
+struct PiecedOutput<'a> {
+    taken: Vec<u8>,
+    pieces: Pieces<'a>,
+}
+
+impl<'a> Write for PiecedOutput<'a> {
+    fn write(&mut self, buf: &[u8]) -> io::Result<usize> {
+        let count = self.pieces.next(buf.len())?;
+        self.taken.extend_from_slice(&buf[..count])?;
+        Ok(count)
+    }
+
+    fn flush(&mut self) -> io::Result<()> {
+        Ok(())
+    }
+}
+
+// Bytes of which no two neighbouring pieces are alike.
+fn numbered(alloc: Global, count: u32) -> Result<Vec<u8>, AllocError> {
+    let mut bytes = Vec::new(alloc);
+    for number in 0..count {
+        bytes.push((number % 251) as u8)?;
+    }
+    Ok(bytes)
 }
 
 #[test]
@@ -73,6 +141,70 @@ fn files_are_fetched(rt: HostRuntime) -> Result<(), Fail> {
     }
     fs::remove_file(&rt, "seven.txt")?;
     assert_eq!(rt; into.as_slice(), b">7 bytes".as_slice());
+    Ok(())
+}
+
+#[test]
+fn a_file_of_three_pieces_is_fetched(rt: HostRuntime) -> Result<(), Fail> {
+    let bytes = numbered(rt.alloc(), 10_000)?;
+    fs::write(&rt, "long.bin", bytes.as_slice())?;
+    let mut shelf = FileShelf::new(rt);
+    let mut into = vec![in rt.alloc(); b'>']?;
+    let cut = fetch_into(&mut shelf, "long.bin", 9_999, &mut into);
+    assert_eq!(rt;
+        (cut, into.as_slice()),
+        (Err(FetchError::TooLong), b">".as_slice())
+    );
+    let whole = fetch_into(&mut shelf, "long.bin", 10_000, &mut into);
+    fs::remove_file(&rt, "long.bin")?;
+    assert_eq!(rt; (whole, into.len()), (Ok(()), 10_001));
+    assert_eq!(rt; &into.as_slice()[1..], bytes.as_slice());
+    Ok(())
+}
+
+#[test]
+fn a_file_is_read_piece_by_piece(rt: HostRuntime) -> Result<(), Fail> {
+    let bytes = numbered(rt.alloc(), 8_200)?;
+    let steps = [Ok(1), Err(ErrorKind::Interrupted), Ok(4_096), Ok(3)];
+    let fault = [Ok(5), Err(ErrorKind::BrokenPipe)];
+    let reads = [
+        (steps.as_slice(), 8_200, Ok(())),
+        (steps.as_slice(), 8_199, Err(FetchError::TooLong)),
+        (fault.as_slice(), 8_200, Err(FetchError::Failed)),
+    ];
+    for (steps, limit, want) in reads {
+        let mut into = Vec::new(rt.alloc());
+        let mut file = PiecedFile {
+            left: bytes.as_slice(),
+            pieces: Pieces { steps },
+        };
+        let answer = read_whole(&mut file, limit, &mut into);
+        assert_eq!(rt; answer, want, "within {limit}");
+        if answer.is_ok() {
+            assert_eq!(rt; into.as_slice(), bytes.as_slice());
+        }
+    }
+    Ok(())
+}
+
+#[test]
+fn an_output_is_written_piece_by_piece(rt: HostRuntime) -> Result<(), Fail> {
+    let steps = [Ok(1), Err(ErrorKind::Interrupted), Ok(2)];
+    let full = [Ok(3), Ok(0)];
+    let fault = [Ok(2), Err(ErrorKind::BrokenPipe)];
+    let writes = [
+        (steps.as_slice(), Ok(()), b"written".as_slice()),
+        (full.as_slice(), Err(PutFailed), b"wri".as_slice()),
+        (fault.as_slice(), Err(PutFailed), b"wr".as_slice()),
+    ];
+    for (steps, want, taken) in writes {
+        let mut output = PiecedOutput {
+            taken: Vec::new(rt.alloc()),
+            pieces: Pieces { steps },
+        };
+        let answer = write_whole(&mut output, b"written");
+        assert_eq!(rt; (answer, output.taken.as_slice()), (want, taken));
+    }
     Ok(())
 }
 
