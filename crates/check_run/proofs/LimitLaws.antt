@@ -5,7 +5,7 @@ use Rattle.std.specs.List.{AllByRecursion, IsDistinct, list_all}
 use Rattle.std.specs.Cmp.{IsEquivalence}
 use Rattle.std.specs.Option.{option_map_or}
 use Rattle.std.specs.Set.{is_member}
-use Rattle.std.proofs.lemmas.Bool.{cases_Bool}
+use Rattle.std.proofs.lemmas.Bool.{cases_Bool, or_left, or_right}
 use Rattle.std.proofs.lemmas.Bool.Decides.{nat_tests}
 use Rattle.std.proofs.lemmas.List.Elements.{Contains-append_left}
 use Rattle.std.proofs.lemmas.Map.Keys.{IsDistinct-cons}
@@ -20,7 +20,7 @@ use Rattle.word_base.specs.declared.kind_name.KindName.TheVariants.{Hdd}
 use Rattle.tables.specs.Canonical.{IsNodeOf, canonical, has}
 use Rattle.tables.specs.Pieces.{Piece, InNodes, SomeUnfit}
 use Rattle.tables.specs.Tree.{Shape, same_shape}
-use Rattle.tables.proofs.NodeLaws.{nodes_are_added}
+use Rattle.tables.proofs.NodeLaws.{nodes_are_added, none_distinct}
 use Rattle.tables.proofs.TreeLaws.{same_shape-same, same_shape-refl}
 use Rattle.checks.specs.Answer.{Difference, first_difference}
 use Rattle.checks.specs.Forward.{building_work, difference_work, forward_work}
@@ -38,18 +38,11 @@ list_fails : {X : Type 0} (p : X → Bool) (xs : List X) (x : X) → Contains xs
 list_fails p xs x has fails =
     ⊎_elim (λ all. absurd (let passes = list_all-true p xs all x has in cc)) (λ some. some) (cases_Bool (list_all p xs))
 
-or_first : (a b : Bool) → a ≡ true → (a || b) ≡ true
-or_first a b e = rw e refl
-
-or_second : (a b : Bool) → b ≡ true → (a || b) ≡ true
-or_second true b e = refl
-or_second false b e = e
-
 pub over_of_unfit : (c : Circuit) (s : Specification) (check : Check) → SomeUnfit Hdd s.letters (building_work c s check) → over Hdd Forward c s check ≡ true
 over_of_unfit c s check (p, listed, unfit) =
     let work = forward_work c s check in
     let fails = list_fails (piece_fits Hdd s.letters) work p (Contains-append_left (building_work c s check) (difference_work 0 c s check) p listed) unfit in
-    or_first (not (list_all (piece_fits Hdd s.letters) work)) (not (values_in_range c s check)) (ap not fails)
+    or_left (not (list_all (piece_fits Hdd s.letters) work)) (not (values_in_range c s check)) (ap not fails)
 
 pub over_of_values : (c : Circuit) (s : Specification) (check : Check) (d : Difference) (at : List Bool) → first_difference (side c s check.left) (side c s check.right) ≡ Some d → at ≡ d.at →
     (all_in_range s.words (net_values c s at) check.left && all_in_range s.words (net_values c s at) check.right) ≡ false → over Hdd Forward c s check ≡ true
@@ -57,7 +50,7 @@ over_of_values c s check d at found at_is out =
     let within : Difference → Bool = λ x. all_in_range s.words (net_values c s x.at) check.left && all_in_range s.words (net_values c s x.at) check.right in
     let here : within d ≡ false = subst (λ (bits : List Bool). (all_in_range s.words (net_values c s bits) check.left && all_in_range s.words (net_values c s bits) check.right) ≡ false) at_is out in
     let values : values_in_range c s check ≡ false = ap (λ (o : Option Difference). option_map_or within o true) found ∙ here in
-    or_second (not (list_all (piece_fits Hdd s.letters) (forward_work c s check))) (not (values_in_range c s check)) (ap not values)
+    or_right (not (list_all (piece_fits Hdd s.letters) (forward_work c s check))) (not (values_in_range c s check)) (ap not values)
 
 -- ---- the nodes of a work
 listed_node : (ds : List Decomp) (ps : List Piece) (s : Shape) → InNodes Hdd ds ps s → has (nodes_of Hdd ds ps) s ≡ true
@@ -93,10 +86,6 @@ member_of_has (t ∷ ts) s h = or_parts (same_shape t s) (same_shape s t) (has t
 -- shapes that are among the nodes, each of an id after the i-th
 abbrev Listed : Lookup → List Shape → ℕ → List Shape → Type 0
 Listed find nodes i = AllByRecursion (λ s. (has nodes s ≡ true) × ((j : ℕ) × (i ≤ j) × HasShape Hdd find (j + 1) s))
-
-none_distinct : IsDistinct same_shape []
-unfolding IsDistinct
-none_distinct = tt
 
 record Counted (find : Lookup) (nodes : List Shape) (i n : ℕ) : Type 0 where
   pub shapes : List Shape

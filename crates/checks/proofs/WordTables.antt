@@ -3,13 +3,12 @@ use Rattle.std.specs.Prelude.{◌≡◌, ℕ, zero, suc, ◌+◌, ◌*◌, ◌^�
 use Rattle.std.specs.List.{enumerate_from}
 use Rattle.std.proofs.Common.{sym, ◌∙◌, ap, arith, add-one}
 use Rattle.std.proofs.Math.Nat.{mul_comm, mul_assoc, pow-succ', two-pow-succ}
-use Rattle.std.proofs.lemmas.Int.{ints}
 use Rattle.std.proofs.lemmas.List.Sums.{fold-append}
 use Rattle.netlist.specs.Polynomial.{number_of}
 use Rattle.netlist.specs.Valuation.{bit_of}
 use Rattle.spec_lang.specs.Placed.{net_values}
 use Rattle.spec_lang.specs.Value.{digit_of, word_value, nets_of}
-use Rattle.tables.proofs.TableLaws.{each-identity}
+use Rattle.tables.proofs.TableLaws.{times_one}
 use Rattle.tables.specs.Table.{Table, plus, multiple, tabulate}
 use Rattle.checks.proofs.Tabulated.{tabulate-same, each-tabulate, zip_with-tabulate}
 use Rattle.checks.specs.Laws.{WordTables}
@@ -55,9 +54,6 @@ partial_sums-at (t ∷ ts) (suc i) d low = sums_from-at t ts i d (omega arith)
 sum_table-append : (ts : List Table) (t : Table) → 0 < length ts → sum_table (ts ++ t ∷ []) ≡ plus (sum_table ts) t
 sum_table-append [] t some = absurd (omega arith)
 sum_table-append (u ∷ ts) t some = fold-append plus u ts (t ∷ [])
-
-times_one : (t : Table) → multiple (pos 1) t ≡ t
-times_one t = each-identity (λ x. pos 1 *ℤ x) (λ x. omega (arith, ints)) t
 
 -- ---- the value of a word
 weighted_bit : (k : ℕ) (bit : Bool) → pos k *ℤ number_of bit ≡ pos (k * cond bit 1 0)

@@ -4,7 +4,7 @@ use Rattle.std.specs.Prelude.{Result, Ok, Err, Contains, Option, Some, slice_get
 use Rattle.std.specs.Option.{option_map_or}
 use Rattle.std.specs.Result.{IsErrAnd}
 use Rattle.std.proofs.lemmas.Option.{slice_get-get_or}
-use Rattle.netlist.proofs.Waits.{Contains-get_or}
+use Rattle.std.proofs.lemmas.List.Elements.{Contains-get_or}
 use Rattle.netlist.specs.Circuit.{Circuit, Gate, gate_of}
 use Rattle.spec_lang.specs.Specification.{Word}
 use Rattle.spec_lang.specs.Value.{nets_of}

@@ -1,11 +1,11 @@
 -- The nets that a check needs: their order, their tables, and which of them are built.
-use Rattle.std.proofs.Common.{◌≡◌, refl, sym, ◌∙◌, ap, subst, ℕ, zero, suc, ◌+◌, ◌-◌, ◌<◌, ◌≤◌, pos, Bool, true, false, ◌&&◌, ◌||◌, List, [], ◌∷◌, ◌++◌, length, take, drop, get_or, arith, inl, inr, ⊎_elim, map}
+use Rattle.std.proofs.Common.{◌≡◌, refl, sym, ◌∙◌, ap, subst, ℕ, zero, suc, ◌+◌, ◌-◌, ◌<◌, ◌≤◌, pos, Bool, true, false, ◌&&◌, List, [], ◌∷◌, ◌++◌, length, take, drop, get_or, arith, inl, inr, ⊎_elim, map}
 use Rattle.std.specs.Prelude.{◌⊎◌, All, Contains, IfSome, Option, Some, None, slice_get, nat_lt}
-use Rattle.std.proofs.lemmas.Bool.{ltb-true}
+use Rattle.std.proofs.lemmas.Bool.{ltb-true, or_left, or_right}
 use Rattle.std.proofs.lemmas.Bool.Decides.{nat_tests}
 use Rattle.std.proofs.lemmas.List.{length-drop, append-nil, take_all}
 use Rattle.std.proofs.Math.Seq.{drop-length}
-use Rattle.std.proofs.lemmas.List.Elements.{All-from_get_or, All-contains, All-head, All-tail}
+use Rattle.std.proofs.lemmas.List.Elements.{All-from_get_or, All-contains, All-head, All-tail, Contains-get_or}
 use Rattle.std.proofs.lemmas.Option.{get_or_from_slice_get, slice_get_cases}
 use Rattle.netlist.specs.Circuit.{Circuit, Gate, IsGate, gate_of, input_count, net_count}
 use Rattle.netlist.specs.Cone.{cone, is_in_cone, IsReachedFrom}
@@ -15,7 +15,6 @@ use Rattle.netlist.specs.Valuation.{bit_of}
 use Rattle.netlist.proofs.Cones.{cone-complete, is_in_cone-reached}
 use Rattle.netlist.proofs.Descent.{reaches_on}
 use Rattle.netlist.proofs.Members.{Contains-from_among, Contains-nil, among-from_Contains}
-use Rattle.netlist.proofs.Waits.{Contains-get_or}
 use Rattle.spec_lang.specs.Named.{nets_named}
 use Rattle.spec_lang.specs.Specification.{Check, Specification, Word}
 use Rattle.spec_lang.specs.Value.{nets_of}
@@ -92,13 +91,6 @@ input_marked c s nets marks net over good tells input reached =
     both : (a b : Bool) → a ≡ true → b ≡ true → (a && b) ≡ true
     both a b e f = rw (e, f) refl
 
-or_first : (a b : Bool) → a ≡ true → (a || b) ≡ true
-or_first a b e = rw e refl
-
-or_second : (a b : Bool) → b ≡ true → (a || b) ≡ true
-or_second true b e = refl
-or_second false b e = e
-
 pub come_after : (c : Circuit) (s : Specification) (nets gates : List ℕ) (marks : List Bool) → IsOver c s → IsWellFormed s → IsAccepted c →
     ((n : ℕ) → n < net_count c → bit_of marks n ≡ is_in_cone c nets n) → gates ≡ cone c nets → ComeAfter c (is_marked s.order marks) gates
 come_after c s nets gates marks over good accepted tells is =
@@ -108,8 +100,8 @@ come_after c s nets gates marks over good accepted tells is =
     let has = subst (λ (n : ℕ). Contains (cone c nets) n) (get_or_from_slice_get (cone c nets) place net 0 at) (Contains-get_or (cone c nets) place 0 low) in
     let reached : IsReachedFrom c nets input = on net input ((topological.each net).0 has).1 reads in
     ⊎_elim
-    (λ first. or_first (is_marked s.order marks input) (is_among (take place (cone c nets)) input) (input_marked c s nets marks input over good tells first reached))
-    (λ before. or_second (is_marked s.order marks input) (is_among (take place (cone c nets)) input) (among-from_Contains (take place (cone c nets)) input before))
+    (λ first. or_left (is_marked s.order marks input) (is_among (take place (cone c nets)) input) (input_marked c s nets marks input over good tells first reached))
+    (λ before. or_right (is_marked s.order marks input) (is_among (take place (cone c nets)) input) (among-from_Contains (take place (cone c nets)) input before))
     (topological.after_inputs place net input at reads))
   where
     on : (net input : ℕ) → IsReachedFrom c nets net → IsInput c net input → IsReachedFrom c nets input
@@ -139,8 +131,8 @@ pub named_built : (c : Circuit) (s : Specification) (nets gates : List ℕ) (mar
     or_listed (is_marked s.order marks) gates net ≡ true
 named_built c s nets gates marks net over good accepted tells is low named =
     ⊎_elim
-    (λ first. or_first (is_marked s.order marks net) (is_among gates net) (input_marked c s nets marks net over good tells first given))
-    (λ gate. or_second (is_marked s.order marks net) (is_among gates net)
+    (λ first. or_left (is_marked s.order marks net) (is_among gates net) (input_marked c s nets marks net over good tells first given))
+    (λ gate. or_right (is_marked s.order marks net) (is_among gates net)
     (among-from_Contains gates net (subst (λ (ns : List ℕ). Contains ns net) (sym is) (((cone-complete c nets accepted).each net).1 ((gate, low), given)))))
     (below_or_not net (input_count c))
   where

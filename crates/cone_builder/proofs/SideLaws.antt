@@ -1,14 +1,13 @@
 -- From the edges of a check's words to those of its sides.
 use Rattle.std.proofs.Common.{◌≡◌, refl, sym, ◌∙◌, ap, subst, ℕ, zero, suc, ◌<◌, pos, Bool, true, false, List, [], ◌∷◌, ◌++◌, drop, length, get_or, arith}
 use Rattle.std.specs.Prelude.{All, Contains, Result, Some, None, slice_get, slice_index_or}
-use Rattle.std.proofs.lemmas.List.Elements.{Contains-append_left, Contains-append_right, All-from_get_or, All-get_or, All-head, All-tail}
+use Rattle.std.proofs.lemmas.List.Elements.{Contains-append_left, Contains-append_right, All-from_get_or, All-get_or, All-head, All-tail, Contains-get_or}
 use Rattle.std.proofs.lemmas.Option.{get_or_from_slice_get}
 use Rattle.word_base.specs.declared.decomp.Decomp.{Decomp}
 use Rattle.word_base.specs.declared.kind_name.KindName.TheVariants.{Hdd}
 use Rattle.netlist.specs.Circuit.{Circuit, net_count}
 use Rattle.netlist.specs.Order.{is_among}
 use Rattle.netlist.proofs.Members.{Contains-head, among-from_Contains}
-use Rattle.netlist.proofs.Waits.{Contains-get_or}
 use Rattle.spec_lang.specs.Formula.{Formula, number, word, negative, sum, difference, product}
 use Rattle.spec_lang.specs.Named.{namings, nets_named, words_of_check}
 use Rattle.spec_lang.specs.Specification.{Check, Specification, Word}

@@ -1,11 +1,11 @@
 -- The first words are built.
 use Rattle.std.proofs.Common.{◌≡◌, refl, sym, ◌∙◌, subst, ℕ, ◌+◌, ◌<◌, Bool, true, List, [], ◌∷◌, length, take, get_or, map, arith}
 use Rattle.std.specs.Prelude.{slice_set, slice_index_or, Contains}
-use Rattle.netlist.proofs.Waits.{Contains-get_or}
 use Rattle.spec_lang.specs.Specification.{Word}
 use Rattle.spec_lang.specs.Value.{nets_of}
 use Rattle.tables.specs.Table.{Table}
 use Rattle.std.specs.Prelude.{Ok}
+use Rattle.std.proofs.lemmas.List.Elements.{Contains-get_or}
 use Rattle.tables.specs.Pieces.{Piece}
 use Rattle.checks.specs.Work.{word_work}
 use Rattle.diagram.specs.Causes.{Causes}

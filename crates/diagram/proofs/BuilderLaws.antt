@@ -9,7 +9,7 @@ use Rattle.tables.specs.Tree.{Weights, weights}
 use Rattle.kind_laws.specs.Body.{Fields, body_of, FitsBody}
 use Rattle.kind_laws.specs.Edge.{root_of, IsZero, fields_of, IsBody}
 use Rattle.kind_laws.specs.declared.edge.Edge.{Edge}
-use Rattle.kind_laws.proofs.GraphLaws.{same_edge, same_table_of_edge}
+use Rattle.kind_laws.proofs.GraphLaws.{same_edge, same_table_of_edge, some_tells}
 use Rattle.diagram.specs.View.{View, find_in, StandsAt, IsEdge, IsKnown, top_of, Keeps, AreAllP, IsGood}
 use Rattle.diagram.specs.Results.{CanPart, HasParts, CanJoin, IsJoin}
 use Rattle.diagram.proofs.EdgeLaws.{allows_all, top_of-node, HasNode, node_of_edge, from_level, constant_stands, node_parts_stand, skipped_parts_stand}
@@ -24,8 +24,6 @@ node_of v e h nonzero =
 pub is_known : (v : View) (e : Edge) → IsEdge v e → (e.node ≡ 0 → ⊥) → IsKnown v.known e.node
 is_known v e h nonzero = let n = node_of v e h nonzero in (body_of n.fields, n.known)
 
-some_tells : {X : Type 0} {x y : X} → Some x ≡ Some y → x ≡ y
-some_tells e = cc
 
 -- the body that is read is that of the node's fields
 pub read_is : (v : View) (e : Edge) (body : List ℕ) (n : HasNode v 0 e.node) → find_in v.known e.node ≡ Some body → body ≡ body_of n.fields

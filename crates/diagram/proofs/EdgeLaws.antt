@@ -12,7 +12,7 @@ use Rattle.tables.specs.Laws.{are_allowed}
 use Rattle.tables.proofs.CanonicalLaws.{rule_of}
 use Rattle.tables.proofs.KindLaws.{canonical_stands}
 use Rattle.tables.proofs.TableLaws.{minus-self, IsOver-part0, IsOver-part1}
-use Rattle.tables.proofs.TreeLaws.{is_at, above_levels, within_levels}
+use Rattle.tables.proofs.TreeLaws.{is_at, above_levels, within_levels, apart}
 use Rattle.kind_laws.specs.Body.{Fields, body_of, FitsBody}
 use Rattle.kind_laws.specs.Edge.{root_of}
 use Rattle.kind_laws.specs.Graph.{HasShape, StandsFor}
@@ -39,9 +39,6 @@ top_of-node v id f known = rw known (omega arith)
 
 edge : ℤ → ℕ → Edge
 edge w n = record { weight = w; node = n }
-
-apart : (l m : ℕ) → l < m → (m == l) ≡ false
-apart l m h = grind arith
 
 -- the id of a node with this shape has the shape's level on top
 above_top : (v : View) (m id : ℕ) (s : Shape) → HasShape Hdd (find_in v.known) id s → m < top_of v id → is_at m s ≡ false

@@ -10,7 +10,7 @@ use Rattle.std.proofs.lemmas.List.{at_drop_more, at_drop_all, get_or-map, length
 use Rattle.std.proofs.lemmas.Str.{IsUtf8-from_ascii}
 use Rattle.std.proofs.lemmas.Str.Ascii.{IsAscii-nil, IsAscii-cons}
 use Rattle.netlist.specs.Circuit.{Circuit}
-use Rattle.first_form.proofs.Numbers.{ascii_where}
+use Rattle.first_form.proofs.Numbers.{ascii_where, digit_is_small}
 use Rattle.first_form.specs.FirstForm.{net_numbers}
 use Rattle.netlist.specs.Names.{is_name_byte}
 use Rattle.first_form.specs.Names.{is_short, is_net_name, is_first_byte, is_later_byte, is_identifier, is_keyword, is_word_name, net_number}
@@ -23,9 +23,6 @@ net_names_are_utf8 name e = IsUtf8-from_ascii name (ascii_where is_name_byte nam
 
 letter_is_small : (b : ℕ) → is_ascii_alphabetic b ≡ true → b < 128
 letter_is_small b e = grind (arith, nat_tests)
-
-digit_is_small : (b : ℕ) → is_ascii_digit b ≡ true → b < 128
-digit_is_small b e = grind (arith, nat_tests)
 
 first_byte_is_small : (b : ℕ) → is_first_byte b ≡ true → b < 128
 first_byte_is_small b e = ⊎_elim (λ letter. letter_is_small b letter) (λ line. let is : b ≡ 95 = eqb-true b 95 line in omega arith) (or_cases (is_ascii_alphabetic b) (nat_eq b 95) e)

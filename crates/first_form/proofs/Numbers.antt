@@ -21,7 +21,7 @@ ascii_where p small (b ∷ text) e =
     let parts = and_parts (p b) (list_all p text) e in
     IsAscii-cons b text (small b parts.0) (ascii_where p small text parts.1)
 
-digit_is_small : (b : ℕ) → is_ascii_digit b ≡ true → b < 128
+pub digit_is_small : (b : ℕ) → is_ascii_digit b ≡ true → b < 128
 digit_is_small b e = grind (arith, nat_tests)
 
 pub digits_are_utf8 : (text : List ℕ) → list_all is_ascii_digit text ≡ true → IsUtf8 text

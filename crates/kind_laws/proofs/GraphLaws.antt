@@ -23,7 +23,7 @@ HasShape-extends k old new more id leaf h = h
 HasShape-extends k old new more id (node l a s b r) (f, fits, zeros, known, level, low, high, below, above) =
     (f, fits, zeros, more id (body_of f) known, level, low, high, HasShape-extends k old new more f.low s below, HasShape-extends k old new more f.high r above)
 
-some_tells : {X : Type 0} {x y : X} → Some x ≡ Some y → x ≡ y
+pub some_tells : {X : Type 0} {x y : X} → Some x ≡ Some y → x ≡ y
 some_tells e = cc
 
 -- an id has one shape

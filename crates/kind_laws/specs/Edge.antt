@@ -1,5 +1,5 @@
 -- An edge of a hybrid diagram, and how two of them join.
-use Rattle.std.specs.Prelude.{◌≡◌, ℕ, ◌↔◌, pos, Some, List}
+use Rattle.std.specs.Prelude.{◌≡◌, ℕ, pos, List}
 use Rattle.tables.specs.Tree.{Weights, weights}
 use Rattle.kind_laws.specs.Body.{Fields, body_of, FitsBody}
 use Rattle.kind_laws.specs.declared.edge.Edge.{Edge}

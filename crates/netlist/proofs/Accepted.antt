@@ -38,7 +38,7 @@ one_place xs p q x apart low at at' = both_ways (nat_eq (get_or xs q x) (get_or 
     (apart_from_distinct nat_eq xs q p x apart low (slice_get_within xs p x at))
     (eq-eqb (get_or xs q x) (get_or xs p x) (get_or_from_slice_get xs q x x at' ∙ sym (get_or_from_slice_get xs p x x at)))
 
-reader_is_gate : {c : Circuit} {net to : ℕ} → Reaches c net to → IsGate c net
+pub reader_is_gate : {c : Circuit} {net to : ℕ} → Reaches c net to → IsGate c net
 reader_is_gate {c} {net} {to} (step reads) = IsGate-from_input c net to reads
 reader_is_gate {c} {net} (steps {input = input} reads rest) = IsGate-from_input c net input reads
 

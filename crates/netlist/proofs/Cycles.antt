@@ -2,12 +2,11 @@
 use Rattle.std.specs.Prelude.{◌≡◌, ℕ, true, List, length, None}
 use Rattle.std.proofs.Common.{⊎_elim, inl, inr}
 use Rattle.std.proofs.lemmas.Bool.{both_ways, false_from_ne_true}
-use Rattle.netlist.proofs.Accepted.{accepted-iff_full}
+use Rattle.netlist.proofs.Accepted.{accepted-iff_full, reader_is_gate}
 use Rattle.netlist.proofs.Calls.{none_least, least-if_none}
 use Rattle.netlist.proofs.Cones.{is_in_cone-reached}
-use Rattle.netlist.proofs.Gates.{IsGate-from_input}
 use Rattle.netlist.proofs.Members.{Contains-gate_nets}
-use Rattle.netlist.specs.Circuit.{Circuit, IsGate, input_count, gate_nets, fanin}
+use Rattle.netlist.specs.Circuit.{Circuit, input_count, gate_nets, fanin}
 use Rattle.netlist.specs.Cone.{IsReachedFrom}
 use Rattle.netlist.specs.Draft.{GateLine}
 use Rattle.netlist.specs.Finish.{is_on_cycle}
@@ -22,10 +21,6 @@ circle-from c net is = ⊎_elim (λ has. step has) (λ far. steps far.1 far.2) (
 from_reaches : {c : Circuit} {net to : ℕ} → Reaches c net to → IsReachedFrom c (fanin c net) to
 from_reaches (step has) = inl has
 from_reaches (steps {input = input} has rest) = inr (input, has, rest)
-
-reader_is_gate : {c : Circuit} {net to : ℕ} → Reaches c net to → IsGate c net
-reader_is_gate {c} {net} {to} (step reads) = IsGate-from_input c net to reads
-reader_is_gate {c} {net} (steps {input = input} reads rest) = IsGate-from_input c net input reads
 
 pub on_cycle-from : (c : Circuit) (net : ℕ) → Reaches c net net → is_on_cycle c net ≡ true
 on_cycle-from c net circle = (is_in_cone-reached c (fanin c net) net).1 (from_reaches circle)

@@ -6,13 +6,12 @@ use Rattle.std.specs.Str.{bytes_eq}
 use Rattle.std.proofs.Common.{sym, ◌∙◌, ap, subst, ⊎_elim, arith, length-append}
 use Rattle.std.proofs.lemmas.Bool.{cases_lt, both_ways, false_from_ne_true, not-false}
 use Rattle.std.proofs.lemmas.List.{length-map, get_or_append_left, get_or-append_right}
-use Rattle.std.proofs.lemmas.List.Elements.{All-map, All-weaker}
+use Rattle.std.proofs.lemmas.List.Elements.{All-map, All-weaker, Contains-get_or}
 use Rattle.std.proofs.lemmas.Map.Keys.{IsDistinct-from_apart, any_passes_from_place}
 use Rattle.std.proofs.lemmas.Option.{slice_get-get_or, get_or_from_slice_get, slice_get-map, slice_get_cases}
 use Rattle.netlist.proofs.Calls.{least-append, none_least, earliest-None}
 use Rattle.netlist.proofs.Gates.{IsGate-from_input, gate_of-at}
 use Rattle.netlist.proofs.Members.{Contains-head, Contains-cases}
-use Rattle.netlist.proofs.Waits.{Contains-get_or}
 use Rattle.netlist.proofs.Makers.{is_some-is_defined}
 use Rattle.netlist.proofs.Sources.{same-from_bytes_eq, place_of-found, found-within}
 use Rattle.netlist.specs.Circuit.{Gate, IsGate, net_count, gate_of}

@@ -2,12 +2,12 @@
 use Rattle.std.specs.Prelude.{◌≡◌, ℕ, get_or, ◌<◌, Bool, true, false, not, ◌&&◌, ◌||◌, List, [], length, Contains}
 use Rattle.std.proofs.Common.{sym, ◌∙◌, subst, inl, inr, ⊎_elim}
 use Rattle.std.proofs.lemmas.Bool.{cases_Bool, both_ways, false_from_ne_true}
+use Rattle.std.proofs.lemmas.List.Elements.{Contains-get_or}
 use Rattle.netlist.proofs.Cones.{is_in_cone-reached}
 use Rattle.netlist.proofs.Descent.{reaches_on}
 use Rattle.netlist.proofs.Marking.{Walk, walk_begins, marked_along}
 use Rattle.netlist.proofs.Members.{among-from_Contains}
 use Rattle.netlist.proofs.Topological.{begins_first}
-use Rattle.netlist.proofs.Waits.{Contains-get_or}
 use Rattle.netlist.specs.Circuit.{Circuit, IsGate, net_count, fanin}
 use Rattle.netlist.specs.Cone.{IsReachedFrom, is_in_cone}
 use Rattle.netlist.specs.Leads.{Leads, at_once, by_way}

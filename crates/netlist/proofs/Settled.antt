@@ -8,8 +8,8 @@ use Rattle.std.proofs.lemmas.Option.{slice_get_within, slice_get-get_or, get_or_
 use Rattle.netlist.proofs.Gates.{Stands-from_gate_of, fanin-of_gate, gate_of-at}
 use Rattle.netlist.proofs.Topological.{topological-complete}
 use Rattle.netlist.proofs.Reach.{topological-is_gate}
-use Rattle.netlist.proofs.Waits.{get_or-any, Contains-get_or}
-use Rattle.std.proofs.lemmas.List.Elements.{All-get_or}
+use Rattle.netlist.proofs.Waits.{get_or-any}
+use Rattle.std.proofs.lemmas.List.Elements.{All-get_or, Contains-get_or}
 use Rattle.netlist.specs.Limits.{IsSizedGate}
 use Rattle.netlist.specs.Nets.{IsSound}
 use Rattle.netlist.proofs.Members.{Contains-head}

@@ -1,5 +1,5 @@
 -- Counts of nets in lists, and sets of nets.
-use Rattle.std.specs.Prelude.{◌≡◌, ◌≢◌, ℕ, zero, suc, replicate, ◌+◌, ◌-◌, ◌<◌, ◌≤◌, ◌==◌, ◌⊎◌, Bool, true, false, cond, ◌&&◌, ◌||◌, List, [], ◌∷◌, ◌++◌, length, take, drop, nat_eq, nat_lt, filter, get_or, Contains, if◌then◌else◌, refl}
+use Rattle.std.specs.Prelude.{◌≡◌, ◌≢◌, ℕ, zero, suc, replicate, ◌+◌, ◌-◌, ◌<◌, ◌≤◌, ◌==◌, ◌⊎◌, Bool, true, false, cond, ◌&&◌, ◌||◌, List, [], ◌∷◌, ◌++◌, length, take, drop, nat_eq, nat_lt, filter, get_or, if◌then◌else◌, refl}
 use Rattle.std.specs.BTreeSet.{BTreeSet, contains, Updates}
 use Rattle.std.specs.BTreeMap.{is_at}
 use Rattle.std.specs.Cmp.{eq_by_cmp_equiv}
@@ -223,9 +223,6 @@ readers_all c readers end all counts net reader low = counts net reader low ∙ 
 -- what a slice of a vector leaves in the vector
 pub refilled : {X : Type 0} (new items : List X) (n : ℕ) → n ≡ length new → take n (new ++ drop (length new) items) ≡ new
 refilled new items n same = rw same (take-append_seam new (drop (length new) items))
-
-pub Contains-get_or : {X : Type 0} (xs : List X) (k : ℕ) (d : X) → k < length xs → Contains xs (get_or xs k d)
-Contains-get_or xs k d low = (k, low, get_or_from_slice_get xs k (get_or xs k d) (get_or xs k d) (slice_get-get_or xs k d low))
 
 -- the list of a net has its readers
 pub reader_counts : (c : Circuit) (readers : List (Vec ℕ Global)) (net : ℕ) (list : Vec ℕ Global) (nets : List ℕ) → CountsReaders c readers → length readers ≡ net_count c → net < net_count c → list ≡ get_or readers net list → nets ≡ list.items

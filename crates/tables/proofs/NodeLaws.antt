@@ -2,6 +2,7 @@
 use Rattle.std.proofs.Common.{◌≡◌, refl, sym, ◌∙◌, ap, List, [], ◌∷◌, Bool, true, false, ◌⊎◌, inl, inr}
 use Rattle.std.specs.Prelude.{◌||◌, if◌then◌else◌}
 use Rattle.std.specs.List.{AllByRecursion, IsDistinct}
+use Rattle.std.proofs.lemmas.Bool.{or_cases, or_left, or_right}
 use Rattle.std.proofs.lemmas.Map.Keys.{IsDistinct-cons}
 use Rattle.tables.specs.Tree.{Shape, leaf, node, same_shape}
 use Rattle.tables.specs.Canonical.{IsNodeOf, has, add_nodes}
@@ -9,18 +10,6 @@ use Rattle.tables.specs.Laws.{NodesAreAdded, NodesAreListed, NodesAreDistinct, L
 use Rattle.tables.proofs.TreeLaws.{chosen, same_shape-same, same_shape-refl}
 
 -- ---- tests
-or_cases : (a b : Bool) → (a || b) ≡ true → (a ≡ true) ⊎ (b ≡ true)
-or_cases true b h = inl refl
-or_cases false b h = inr h
-
-or_left : (a b : Bool) → a ≡ true → (a || b) ≡ true
-or_left true b h = refl
-or_left false b h = cc
-
-or_right : (a b : Bool) → b ≡ true → (a || b) ≡ true
-or_right true b h = refl
-or_right false b h = h
-
 or_neither : (a b : Bool) → (a || b) ≡ false → (a ≡ false) × (b ≡ false)
 or_neither true b h = absurd (cc)
 or_neither false b h = (refl, h)
@@ -110,7 +99,7 @@ nodes_are_distinct (node l a s b r) found h =
     add_node-distinct (node l a s b r) (add_nodes r (add_nodes s found))
     (nodes_are_distinct r (add_nodes s found) (nodes_are_distinct s found h))
 
-none_distinct : IsDistinct same_shape []
+pub none_distinct : IsDistinct same_shape []
 unfolding IsDistinct
 none_distinct = tt
 

@@ -1,9 +1,9 @@
 -- Laws of tables: sums and differences, functions of entries, and parts.
-use Rattle.std.proofs.Common.{◌≡◌, refl, sym, ◌∙◌, ap, ℕ, zero, suc, ℤ, pos, ◌+ℤ◌, ◌-ℤ◌, arith}
+use Rattle.std.proofs.Common.{◌≡◌, refl, sym, ◌∙◌, ap, ℕ, zero, suc, ℤ, pos, ◌+ℤ◌, ◌-ℤ◌, ◌*ℤ◌, arith}
 use Rattle.std.proofs.lemmas.Int.{ints}
 use Rattle.word_base.specs.declared.decomp.Decomp.{Decomp}
 use Rattle.word_base.specs.declared.decomp.Decomp.TheVariants.{S, P, N}
-use Rattle.tables.specs.Table.{Table, entry, halves, IsOver, each, zip_with, plus, minus, part0, part1, merged, constant_table}
+use Rattle.tables.specs.Table.{Table, entry, halves, IsOver, each, multiple, zip_with, plus, minus, part0, part1, merged, constant_table}
 
 -- two equations between the halves
 pub both_halves : {a b c d : Table} → a ≡ c → b ≡ d → halves a b ≡ halves c d
@@ -17,6 +17,9 @@ each-same f g h (halves lo hi) = both_halves (each-same f g h lo) (each-same f g
 pub each-identity : (f : ℤ → ℤ) → ((x : ℤ) → f x ≡ x) → (t : Table) → each f t ≡ t
 each-identity f h (entry x) = ap entry (h x)
 each-identity f h (halves lo hi) = both_halves (each-identity f h lo) (each-identity f h hi)
+
+pub times_one : (t : Table) → multiple (pos 1) t ≡ t
+times_one t = each-identity (λ x. pos 1 *ℤ x) (λ x. omega (arith, ints)) t
 
 pub each-each : (f g : ℤ → ℤ) (t : Table) → each f (each g t) ≡ each (λ x. f (g x)) t
 each-each f g (entry x) = refl

@@ -101,7 +101,7 @@ is_at-node_join StarBmd d l m low high = refl
 is_at-node_join Hdd d l m low high = refl
 is_at-node_join KStarBmd d l m low high = refl
 
-apart : (l m : ℕ) → l < m → (m == l) ≡ false
+pub apart : (l m : ℕ) → l < m → (m == l) ≡ false
 apart l m h = grind arith
 
 -- no node of a canonical tree stands above its levels

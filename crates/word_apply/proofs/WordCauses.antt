@@ -8,6 +8,7 @@ use Rattle.word_base.specs.declared.kind_name.KindName.TheVariants.{Hdd}
 use Rattle.tables.specs.Table.{Table, plus, multiple}
 use Rattle.tables.specs.Pieces.{Piece, pieces, add_work, scale_work}
 use Rattle.tables.proofs.PieceLaws.{Covers, covers_on, covers_left, covers_right, covers_both}
+use Rattle.tables.proofs.TableLaws.{times_one}
 use Rattle.kind_laws.specs.declared.edge.Edge.{Edge}
 use Rattle.diagram.specs.declared.builder.Limit.{Limit}
 use Rattle.diagram.specs.Causes.{Causes, CausesOfEach, CausesOfBoth}
@@ -18,7 +19,7 @@ use Rattle.diagram.proofs.CauseLaws.{causes_after, causes_covered}
 use Rattle.word_apply.specs.Applied.{AllStand, CausesOfAll, CausesOfRest, sum_work}
 use Rattle.word_apply.proofs.CallLaws.{covers_tables}
 use Rattle.word_apply.proofs.FoldLaws.{all_stay}
-use Rattle.word_apply.proofs.WordLaws.{doubled, times_one}
+use Rattle.word_apply.proofs.WordLaws.{doubled}
 
 -- ---- four lists in a row
 first_of_four : (ds : List Decomp) (ps qs rs os : List Piece) → Covers Hdd ds (ps ++ qs ++ rs ++ os) ps

@@ -1,9 +1,8 @@
 -- Words over edges: the sum of the multiples of their nets.
 use Rattle.std.proofs.Common.{◌≡◌, sym, ap, subst, ℕ, suc, ◌+◌, ◌*◌, ◌^◌, ◌<◌, ◌≤◌, ℤ, pos, ◌+ℤ◌, ◌*ℤ◌, List, [], ◌∷◌, length, fold, arith, add-one}
 use Rattle.std.proofs.Math.Nat.{two-pow-succ}
-use Rattle.std.proofs.lemmas.Int.{ints}
 use Rattle.checks.specs.Work.{multiples, word_table}
-use Rattle.tables.proofs.TableLaws.{each-identity}
+use Rattle.tables.proofs.TableLaws.{times_one}
 use Rattle.tables.specs.Table.{Table, plus, multiple}
 use Rattle.kind_laws.specs.declared.edge.Edge.{Edge}
 use Rattle.diagram.specs.Results.{IsOfBoth, IsOfEach}
@@ -38,9 +37,6 @@ sum_of_more exponent v w x y start bit multiple_of sum e more first second each_
         let added = both.table l t (multiple (pos (2 ^ exponent)) u) at_w (stays v w l t start first s) (each_of.table l u within all.0) in
         let made = rest.table l (plus t (multiple (pos (2 ^ exponent)) u)) us at_x added (all_stay v x l us more (keeps_on v w x first second) all.1) in
         subst (λ (k : ℕ). StandsAt y l (fold plus (plus t (multiple (pos (2 ^ exponent)) u)) (multiples k us)) e) (sym (doubled exponent)) made
-
-pub times_one : (t : Table) → multiple (pos 1) t ≡ t
-times_one t = each-identity (λ x. pos 1 *ℤ x) (λ x. omega (arith, ints)) t
 
 -- the first net counts once
 pub word_of_sum : (v w : View) (first : Edge) (more bits : List Edge) (e : Edge) → bits ≡ first ∷ more → IsSumOf 1 v w first more e → IsWordOf v w bits e

@@ -1,10 +1,10 @@
 use Rattle.std.proofs.Common.{◌≡◌, ◌∙◌, sym, ap, subst, length, List, arith}
 use Rattle.std.specs.Prelude.{slice_index_or}
 use Rattle.std.proofs.lemmas.List.{length-map}
-use Rattle.netlist.proofs.Waits.{Contains-get_or}
 use Rattle.netlist.specs.Circuit.{Gate, name_of}
 use Rattle.kind_laws.specs.declared.edge.Edge.{Edge}
 use Rattle.std.proofs.Common.{drop}
+use Rattle.std.proofs.lemmas.List.Elements.{Contains-get_or}
 use Rattle.checks.specs.Work.{gate_work}
 use Rattle.cone_builder.proofs.CauseLaws.{causes_answered, limit_refused, gate_causes}
 use Rattle.word_apply.specs.Applied.{AreEdges, CausesOfAll, IsGateOf}

@@ -1,9 +1,9 @@
 use Rattle.std.proofs.Common.{◌≡◌, ◌<◌, false, ◌||◌, ◌∙◌, sym, ap, length, Contains, replicate, refl}
 use Rattle.std.proofs.lemmas.List.{length-replicate, nil_from_length}
-use Rattle.std.proofs.lemmas.List.Elements.{All-contains}
+use Rattle.std.proofs.lemmas.List.Elements.{All-contains, Contains-get_or}
 use Rattle.netlist.proofs.Marking.{walk_more}
 use Rattle.netlist.proofs.Reach.{cone_begins, reached_onwards, marks-cone}
-use Rattle.netlist.proofs.Waits.{refilled, Contains-get_or, zeros_at}
+use Rattle.netlist.proofs.Waits.{refilled, zeros_at}
 use Rattle.netlist.specs.Circuit.{net_count, fanin}
 use Rattle.netlist.specs.Cone.{IsReachedFrom}
 use Rattle.netlist.specs.Order.{is_among}
