@@ -24,7 +24,6 @@ node_of v e h nonzero =
 pub is_known : (v : View) (e : Edge) → IsEdge v e → (e.node ≡ 0 → ⊥) → IsKnown v.known e.node
 is_known v e h nonzero = let n = node_of v e h nonzero in (body_of n.fields, n.known)
 
-
 -- the body that is read is that of the node's fields
 pub read_is : (v : View) (e : Edge) (body : List ℕ) (n : HasNode v 0 e.node) → find_in v.known e.node ≡ Some body → body ≡ body_of n.fields
 read_is v e body n found = some_tells (sym found ∙ n.known)
