@@ -1,9 +1,10 @@
 -- Worked checks: node counts, first differences, and work counted by hand.
-use Rattle.std.specs.Prelude.{◌≡◌, ℕ, pos, negsuc, true, false, List, [], ◌∷◌, length, codes, refl}
+use Rattle.std.specs.Prelude.{◌≡◌, ℕ, ◌+◌, pos, negsuc, true, false, List, [], ◌∷◌, length, codes, refl}
+use Rattle.std.specs.List.{list_all}
 use Rattle.netlist.specs.Circuit.{Circuit}
 use Rattle.netlist.specs.Circuits.{gate, half, c17}
 use Rattle.netlist.specs.declared.gate_word.GateWord.TheVariants.{And, Nor, Or, Not}
-use Rattle.spec_lang.specs.Formula.{number, word, sum, difference, product}
+use Rattle.spec_lang.specs.Formula.{Formula, number, word, sum, difference, product}
 use Rattle.spec_lang.specs.Specification.{Check, Specification, single, half_adder, half_adder_check}
 use Rattle.tables.specs.Table.{entry, halves}
 use Rattle.word_base.specs.declared.decomp.Decomp.{Decomp}
@@ -13,8 +14,8 @@ use Rattle.checks.specs.declared.method.Method.TheVariants.{Forward, Backward}
 use Rattle.checks.specs.Answer.{IsFirstDifference, answer, equal, different}
 use Rattle.checks.proofs.FirstDifference.{first_difference_found}
 use Rattle.checks.specs.Backward.{backward_letters, backward_nets, backward_work}
-use Rattle.checks.specs.Forward.{building_work, forward_work}
-use Rattle.checks.specs.Limits.{need, over, short}
+use Rattle.checks.specs.Forward.{building_work, forward_work, input_work}
+use Rattle.checks.specs.Limits.{need, over, passes, piece_fits, short}
 
 -- two inputs and no gate; an inverter; z = NOR(a, b); no net at all
 abbrev pair : Circuit
@@ -171,6 +172,53 @@ too_great = record { left = sum (number (pos 17014118346046923173168730371588410
 
 too_great-over : over KStarBmd Backward pair (of_pair (0 ∷ 1 ∷ []) too_great) too_great ≡ true
 too_great-over = refl
+
+-- ---- 2^126*a + 2^126*b is 2^127 where both are 1, though each table that it goes through fits
+abbrev great : Formula → Formula
+great f = product (number (pos 85070591730234615865843651857942052864)) f
+
+abbrev great_sum : Formula
+great_sum = sum (great (word 0)) (great (word 1))
+
+-- the same but where both are 1
+abbrev great_either : Formula
+great_either = sum (great (word 0)) (great (difference (word 1) (product (word 0) (word 1))))
+
+abbrev great_left : Check
+great_left = record { left = great_sum; right = great_either }
+
+abbrev great_right : Check
+great_right = record { left = great_either; right = great_sum }
+
+abbrev of_both : Check → Specification
+of_both check = record { order = 0 ∷ 1 ∷ []; letters = P ∷ P ∷ []; words = single (codes "a") 0 ∷ single (codes "b") 1 ∷ []; checks = check ∷ [] }
+
+great_left-fits : list_all (piece_fits Hdd (P ∷ P ∷ [])) (forward_work pair (of_both great_left) great_left) ≡ true
+great_left-fits = refl
+
+great_left-over : over Hdd Forward pair (of_both great_left) great_left ≡ true
+great_left-over = refl
+
+great_right-over : over Hdd Forward pair (of_both great_right) great_right ≡ true
+great_right-over = refl
+
+-- ---- the work of a check in which one of two inputs stands, and which differs
+is_zero-input : length (input_work pair (of_pair (0 ∷ 1 ∷ []) is_zero) is_zero) ≡ 1
+is_zero-input = refl
+
+-- both tables at each of three levels
+is_zero-walk : length (forward_work pair (of_pair (0 ∷ 1 ∷ []) is_zero) is_zero) ≡ length (building_work pair (of_pair (0 ∷ 1 ∷ []) is_zero) is_zero) + 6
+is_zero-walk = refl
+
+-- ---- passes over the table of nodes
+forward-passes_of_three : passes Forward 3 ≡ 3
+forward-passes_of_three = refl
+
+backward-passes_of_one : passes Backward 1 ≡ 1
+backward-passes_of_one = refl
+
+backward-passes_of_three : passes Backward 3 ≡ 2
+backward-passes_of_three = refl
 
 -- ---- the second entries are the first that differ
 second_is_first : IsFirstDifference 1 (halves (entry (pos 1)) (entry (pos 2))) (halves (entry (pos 1)) (entry (negsuc 0)))

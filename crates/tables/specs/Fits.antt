@@ -55,6 +55,10 @@ evbdd-limit = refl
 k_star_bmd-limit : fits KStarBmd (S ∷ []) (two (negsuc 0) (pos 170141183460469231731687303715884105727)) ≡ false
 k_star_bmd-limit = refl
 
+-- 2^127 is the difference of 2^127-1 and -1 here too, but no root weight
+k_star_bmd-difference : fits KStarBmd (S ∷ P ∷ []) (halves (two (negsuc 0) (pos 0)) (two (pos 170141183460469231731687303715884105727) (pos 170141183460469231731687303715884105726))) ≡ false
+k_star_bmd-difference = refl
+
 below-limit : fits KStarBmd (S ∷ []) (two (pos 0) (pos 170141183460469231731687303715884105727)) ≡ true
 below-limit = refl
 
