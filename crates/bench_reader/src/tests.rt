@@ -20,7 +20,7 @@ fn fault(rt: &(impl Abort + AllocGlobal), bytes: &[u8]) -> (u32, Option<BenchCau
 
 #[test]
 fn the_first_fault_decides(rt: HostRuntime) {
-    let rows: [(&[u8], u32, BenchCause); 22] = [
+    let rows: [(&[u8], u32, BenchCause); 10] = [
         (
             b"INPUT(a)\nOUTPUT(z)\nz = DFF(a)\n",
             3,
@@ -59,6 +59,15 @@ fn the_first_fault_decides(rt: HostRuntime) {
             6,
             BenchCause::BadLine,
         ),
+    ];
+    for (bytes, line, cause) in rows.iter() {
+        assert_eq!(rt; fault(&rt, bytes), (*line, Some(*cause)), "{bytes:?}");
+    }
+}
+
+#[test]
+fn a_line_has_its_fault(rt: HostRuntime) {
+    let rows: [(&[u8], u32, BenchCause); 12] = [
         (b"INPUT(a)\nz = AND2(a)", 2, BenchCause::BadLine),
         (b"INPUT(a) INPUT(b)", 1, BenchCause::BadLine),
         (b"INPUT a", 1, BenchCause::BadLine),
