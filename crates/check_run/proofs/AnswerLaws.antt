@@ -14,29 +14,27 @@ use Rattle.outside.specs.Shelf.{told, IsLonger}
 use Rattle.report.specs.Lines.{brief_line}
 use Rattle.report.specs.declared.refusal.Refusal.{Refusal}
 use Rattle.report.specs.declared.refusal.Refusal.TheVariants as refusal
+use Rattle.kind_laws.proofs.GraphLaws.{some_tells}
 use Rattle.cone_builder.proofs.NetLaws.{if_some_at}
 use Rattle.check_run.specs.Decided.{IsReported, IsVerdictOf}
 use Rattle.check_run.specs.Loaded.{Files, IsLoaded, IsRefused, IsText, SaysNetlist, SaysSpec, most_bytes}
 use Rattle.check_run.specs.Run.{Accepts, Answers, IsToldText, MeetsNoLimit, PutsAll, Reports}
 use Rattle.check_run.specs.Words.{Names, names_of}
 
-pub some_is : {X : Type 0} {x y : X} → Some x ≡ Some y → x ≡ y
-some_is e = cc
-
 same_circuit : (text other : List ℕ) (c d : Circuit) → reading text ≡ Ok c → reading other ≡ Ok d → other ≡ text → d ≡ c
 same_circuit text other c d reads told is = let both : reading text ≡ Ok d = ap reading (sym is) ∙ told in cc
 
 same_names : (words : List (List ℕ)) (a b : Names) → names_of words ≡ Some a → names_of words ≡ Some b → a ≡ b
-same_names words a b is other = some_is (sym is ∙ other)
+same_names words a b is other = some_tells (sym is ∙ other)
 
 -- a told text is the only one
 only_text : (files : Files) (name text other : List ℕ) → IsToldText files name text → IsText files name other → other ≡ text
-only_text files name text other here there = sym (some_is (there.whole (Some text) here.told))
+only_text files name text other here there = sym (some_tells (there.whole (Some text) here.told))
 
 not_longer : (files : Files) (name text : List ℕ) → IsToldText files name text → IsLonger (told files name) most_bytes → ⊥
 not_longer files name text here longer =
     let more = longer (Some text) here.told in
-    let same : text ≡ more.0 = some_is more.1 in
+    let same : text ≡ more.0 = some_tells more.1 in
     let many : length text ≡ length more.0 = ap length same in
     omega (arith, more.2, here.within, many)
 
@@ -71,7 +69,7 @@ same_loaded words files c d s t check takes loaded =
     let other = only_text files takes.names.spec takes.spec_text spec.0 takes.spec spec.1 in
     let circuit : d ≡ c = same_circuit takes.netlist_text netlist.0 c d takes.reads netlist.2 one in
     let told_spec : Some t ≡ Some s = sym spec.2 ∙ ap (first_form d Hdd) other ∙ ap (λ (x : Circuit). first_form x Hdd takes.spec_text) circuit ∙ takes.says in
-    (circuit, some_is told_spec)
+    (circuit, some_tells told_spec)
 
 -- a verdict that is no limit is the answer
 no_limit : (c : Circuit) (s : Specification) (check : Check) (verdict : Verdict) → MeetsNoLimit c s check → IsVerdictOf c s check verdict → verdict ≡ answer Hdd c s check

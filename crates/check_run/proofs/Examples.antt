@@ -1,11 +1,13 @@
 -- What a run has to say, computed from the definitions for some files.
-use Rattle.std.specs.Prelude.{ℕ, pos, true, List, [], ◌∷◌, ◌++◌, codes, Some, None, if◌then◌else◌, refl}
+use Rattle.std.specs.Prelude.{ℕ, pos, true, List, [], ◌∷◌, ◌++◌, codes, ◌≡◌, ◌⊎◌, Some, None, Ok, Err, if◌then◌else◌, refl}
 use Rattle.std.specs.Fmt.{digits}
 use Rattle.std.specs.Str.{bytes_eq}
-use Rattle.std.proofs.Common.{lit≤, sym, inl, inr}
+use Rattle.std.proofs.Common.{lit≤, sym, ◌∙◌, subst, arith, inl, inr}
 use Rattle.netlist.specs.Circuit.{Circuit}
 use Rattle.netlist.specs.Circuits.{half}
 use Rattle.bench_reader.specs.Faults.{fault}
+use Rattle.bench_reader.specs.Reading.{reading}
+use Rattle.outside.specs.Shelf.{told, ShelfRose}
 use Rattle.bench_reader.specs.declared.fault.BenchCause.TheVariants.{Cycle}
 use Rattle.spec_lang.specs.Formula.{number, word, sum}
 use Rattle.spec_lang.specs.Specification.{Check, Specification, half_adder, half_adder_check}
@@ -15,10 +17,10 @@ use Rattle.checks.specs.Answer.{different, overflow}
 use Rattle.checks.specs.declared.status.Status.TheVariants.{Done}
 use Rattle.report.specs.declared.refusal.Refusal.TheVariants as refusal
 use Rattle.check_run.specs.Decided.{IsVerdictOf}
-use Rattle.check_run.specs.Loaded.{Files, FailsToRead, IsRefused}
+use Rattle.check_run.specs.Loaded.{Files, FailsToRead, IsRefused, IsText, SaysNetlist}
 use Rattle.check_run.specs.Run.{Accepts, Answers, MeetsNoLimit}
 use Rattle.check_run.specs.Words.{Names}
-use Rattle.check_run.proofs.AnswerLaws.{some_is}
+use Rattle.kind_laws.proofs.GraphLaws.{some_tells}
 
 -- a shelf of a netlist and a specification
 abbrev shelf_of : List ℕ → List ℕ → Files
@@ -92,11 +94,32 @@ abbrev looped : Files
 looped = Some (λ name. if bytes_eq name (codes "n") then Some (codes "INPUT(a)\nx = AND(x, a)\n") else None)
 
 looped-is_refused : IsRefused words looped (refusal.Netlist (fault 2 Cycle))
-looped-is_refused = (names, refl, (codes "INPUT(a)\nx = AND(x, a)\n", record { within = lit≤ tt; whole = λ file is. some_is (sym is) }, refl))
+looped-is_refused = (names, refl, (codes "INPUT(a)\nx = AND(x, a)\n", record { within = lit≤ tt; whole = λ file is. some_tells (sym is) }, refl))
 
 -- ---- files that are not there
 no_netlist : FailsToRead words (Some (λ name. None)) 7 7
 no_netlist = (names, refl, inl (inr refl))
 
+-- the specification is read where the netlist is taken
+no_spec : FailsToRead words (Some (λ name. if bytes_eq name (codes "n") then Some half_text else None)) 7 7
+no_spec = (names, refl, inr (half, (half_text, record { within = lit≤ tt; whole = λ file is. some_tells (sym is) }, refl), inr refl))
+
 one_word-no_fault : FailsToRead (codes "check" ∷ []) (Some (λ name. None)) 7 8 → ⊥
 one_word-no_fault (found, named, _) = absurd (cc)
+
+-- and not in the place of a netlist that is refused
+looped-no_fault : FailsToRead words looped 7 7 → ⊥
+looped-no_fault (found, named, fails) = by_file (some_tells named) fails
+  where
+    looped_text : List ℕ
+    looped_text = codes "INPUT(a)\nx = AND(x, a)\n"
+
+    by_file : names ≡ found → ShelfRose looped found.netlist 7 7 ⊎ ((c : Circuit) × SaysNetlist looped found.netlist c × ShelfRose looped found.spec 7 7) → ⊥
+    by_file same (inl (inl rose)) = absurd (omega (arith, rose))
+    by_file same (inl (inr lacks)) =
+        let there : Some (Some looped_text) ≡ Some None = subst (λ (n : Names). told looped n.netlist ≡ Some None) (sym same) lacks in absurd (cc)
+    by_file same (inr (c, (text, is, reads), rose)) =
+        let whole : Some looped_text ≡ Some text = (subst (λ (n : Names). IsText looped n.netlist text) (sym same) is).whole (Some looped_text) refl in
+        let refused : reading looped_text ≡ Err (fault 2 Cycle) = refl in
+        let said : reading looped_text ≡ Ok c = subst (λ (t : List ℕ). reading t ≡ Ok c) (sym (some_tells whole)) reads in
+        absurd (let no : Err (fault 2 Cycle) ≡ Ok c = sym refused ∙ said in cc)

@@ -8,7 +8,7 @@ use Rattle.std.specs.Cmp.{nat_cmp_total}
 use Rattle.std.specs.Coded.{Coded, code_by, coded×, coded_ℕ, coded_list}
 use Rattle.std.specs.FinMap as map
 use Rattle.std.specs.FinSet as set
-use Rattle.outside.specs.Count.{raised}
+use Rattle.outside.specs.Count.{raised, counted}
 
 -- the files by their names, the numbers of the fetches that are to fail, how many fetches there were, and how many were to fail
 pub record ShelfState : Type 0 where
@@ -47,7 +47,7 @@ after_fetch shelf = record {
   files = shelf.files;
   failing = shelf.failing;
   fetches = raised shelf.fetches;
-  faults = if fails_next shelf then raised shelf.faults else shelf.faults;
+  faults = counted (fails_next shelf) shelf.faults;
 }
 
 -- a shelf whose file "a" was set twice, and whose second fetch is to fail

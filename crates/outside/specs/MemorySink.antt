@@ -1,6 +1,6 @@
 -- A sink in memory.
-use Rattle.std.specs.Prelude.{◌≡◌, ℕ, Bool, nat_lt, List, [], ◌∷◌, ◌++◌, length, take, if◌then◌else◌, refl}
-use Rattle.outside.specs.Count.{raised}
+use Rattle.std.specs.Prelude.{◌≡◌, ℕ, Bool, nat_lt, List, [], ◌∷◌, ◌++◌, length, take, refl}
+use Rattle.outside.specs.Count.{counted}
 
 -- what was written, for how many bytes there is room in all, and how often a put passed the room
 pub record SinkState : Type 0 where
@@ -17,7 +17,7 @@ abbrev pub after_put : SinkState → List ℕ → SinkState
 after_put sink bytes = record {
   written = take sink.room (sink.written ++ bytes);
   room = sink.room;
-  faults = if passes sink bytes then raised sink.faults else sink.faults;
+  faults = counted (passes sink bytes) sink.faults;
 }
 
 after_put-room_for_two :

@@ -1,5 +1,6 @@
 -- What a fetch gives. A shelf's files are the bytes of each name, where there are any, or `None` where the shelf does not tell.
 use Rattle.std.specs.Prelude.{◌≡◌, ℕ, ◌≤◌, ◌<◌, ◌⊎◌, Bool, true, false, List, ◌++◌, length, Option, Some, None, Result, Ok, Err, codes, unwrap_or, refl}
+use Rattle.std.specs.Option.{option_map}
 use Rattle.std.proofs.Common.{ap, sym, lit≤}
 use Rattle.outside.specs.Count.{Rose}
 use Rattle.outside.specs.declared.shelf.FetchError.{FetchError}
@@ -54,8 +55,7 @@ longer-ab = λ file same. (codes "ab", ap (λ known. unwrap_or known None) (sym 
 
 -- what a reader of a file tells of it: the bytes that it has left
 abbrev pub file_left : Option (List ℕ) → Option (Option (List ℕ))
-file_left None = None
-file_left (Some bytes) = Some (Some bytes)
+file_left = option_map Some
 
 file_left-ab : file_left (Some (codes "ab")) ≡ Some (Some (codes "ab"))
 file_left-ab = refl
