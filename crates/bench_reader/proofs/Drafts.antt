@@ -5,7 +5,7 @@ use Rattle.std.specs.Str.{bytes_eq}
 use Rattle.std.proofs.lemmas.Bool.{cases_Bool}
 use Rattle.std.proofs.lemmas.List.{append-nil, map_push}
 use Rattle.netlist.specs.Draft.{Draft, GateLine, OutputLine, draft_names, nothing, next_call, counted, with_input, with_gate, with_output, gate_line, output_line, is_output}
-use Rattle.netlist.specs.Circuit.{Circuit, Gate}
+use Rattle.circuits.specs.Circuit.{Circuit, Gate}
 use Rattle.netlist.specs.Finish.{circuit_of}
 use Rattle.bench_reader.specs.Statements.{Statement, says_input, says_output, says_gate, input_name, gate_name, output_name, with_name, outputs, nets, number, numbered, circuit}
 use Rattle.bench_reader.specs.Steps.{with_statement, drafted}

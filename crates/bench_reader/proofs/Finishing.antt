@@ -4,7 +4,7 @@ use Rattle.std.specs.List.{list_any, range_with_len}
 use Rattle.std.specs.Str.{bytes_eq}
 use Rattle.std.specs.Option.{option_or}
 use Rattle.std.proofs.lemmas.List.{length-map}
-use Rattle.netlist.specs.Circuit.{Circuit, gate_nets}
+use Rattle.circuits.specs.Circuit.{Circuit, gate_nets}
 use Rattle.netlist.specs.Draft.{Draft, GateLine, OutputLine}
 use Rattle.netlist.specs.Fault as net
 use Rattle.netlist.specs.Finish.{least, undefined_calls, cycle_calls, undefined_fault, cycle_fault, finish_fault}

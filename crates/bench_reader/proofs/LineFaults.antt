@@ -5,8 +5,8 @@ use Rattle.std.specs.List.{list_any}
 use Rattle.std.specs.Option.{option_or, option_map_or}
 use Rattle.std.specs.Str.{bytes_eq, str_eq_ignore_ascii_case}
 use Rattle.netlist.specs.Draft.{Draft, net_fault, next_call, gate_fault, output_fault, is_long}
-use Rattle.netlist.specs.Limits.{most_inputs, most_gates, most_fanin}
-use Rattle.netlist.specs.declared.gate_word.GateWord.{GateWord}
+use Rattle.circuits.specs.Limits.{most_inputs, most_gates, most_fanin}
+use Rattle.circuits.specs.declared.gate_word.GateWord.{GateWord}
 use Rattle.bench_reader.specs.declared.fault.BenchCause.{BenchCause}
 use Rattle.bench_reader.specs.declared.fault.BenchCause.TheVariants.{UnknownGate, BadArity, DuplicateNet, Sequential, TooLarge, NotAscii}
 use Rattle.bench_reader.specs.Faults.{takes, form_fault, line_fault, first_cause, is_too_large, is_duplicate, is_above_127}

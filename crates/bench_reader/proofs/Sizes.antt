@@ -4,9 +4,9 @@ use Rattle.std.specs.List.{list_any}
 use Rattle.std.specs.Option.{option_map_or}
 use Rattle.std.specs.Str.{str_eq_ignore_ascii_case}
 use Rattle.std.proofs.lemmas.Bool.{ltb-true, eqb-true}
-use Rattle.netlist.specs.Limits.{AcceptsArity}
-use Rattle.netlist.specs.declared.gate_word.GateWord.{GateWord}
-use Rattle.netlist.specs.declared.gate_word.GateWord.TheVariants.{And, Nand, Or, Nor, Xor, Xnor, Not, Buff}
+use Rattle.circuits.specs.Limits.{AcceptsArity}
+use Rattle.circuits.specs.declared.gate_word.GateWord.{GateWord}
+use Rattle.circuits.specs.declared.gate_word.GateWord.TheVariants.{And, Nand, Or, Nor, Xor, Xnor, Not, Buff}
 use Rattle.bench_reader.specs.declared.fault.BenchCause.{BenchCause}
 use Rattle.bench_reader.specs.declared.fault.BenchCause.TheVariants.{UnknownGate, BadArity, Sequential, NotAscii}
 use Rattle.bench_reader.specs.Faults.{takes, first_cause, is_above_127}

@@ -6,7 +6,7 @@ use Rattle.std.specs.Str.{IsAscii, IsUtf8}
 use Rattle.std.proofs.lemmas.Str.{IsUtf8-from_ascii}
 use Rattle.std.proofs.lemmas.Str.Ascii.{IsAscii-nil, IsAscii-cons}
 use Rattle.std.proofs.lemmas.Bool.{eqb-true, ltb-true, and_parts, or_cases, cases_Bool}
-use Rattle.netlist.specs.Names.{is_name_byte}
+use Rattle.circuits.specs.Names.{is_name_byte}
 use Rattle.bench_reader.specs.Symbols.{Symbol, name, opening, closing, comma, equals, blank, stray, is_white, sign, symbol_of, joined, with_blanks, is_no_blank, symbols}
 
 white_is_blank : (b : ℕ) → is_white b ≡ true → symbol_of b ≡ blank

@@ -2,9 +2,9 @@
 use Rattle.std.specs.Prelude.{◌≡◌, ℕ, ◌+◌, ◌-◌, Bool, true, false, not, List, [], ◌∷◌, position, slice_index, Option, option_map, is_some, codes, if◌then◌else◌, refl}
 use Rattle.std.specs.List.{list_any}
 use Rattle.std.specs.Option.{option_or}
-use Rattle.netlist.specs.Circuit.{Circuit, fanin}
-use Rattle.netlist.specs.Circuits.{half, looped}
-use Rattle.netlist.specs.Cone.{is_in_cone}
+use Rattle.circuits.specs.Circuit.{Circuit, fanin}
+use Rattle.circuits.specs.Examples.{half, looped}
+use Rattle.circuits.specs.Cone.{is_in_cone}
 use Rattle.bench_reader.specs.declared.fault.BenchCause.{BenchCause}
 use Rattle.bench_reader.specs.declared.fault.BenchCause.TheVariants.{UndefinedNet, Cycle}
 use Rattle.bench_reader.specs.declared.fault.BenchFault.{BenchFault}

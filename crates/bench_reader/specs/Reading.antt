@@ -1,9 +1,9 @@
 -- What a text says: a circuit, or its first fault.
 use Rattle.std.specs.Prelude.{◌≡◌, ℕ, ◌+◌, List, [], ◌∷◌, ◌++◌, Option, Some, None, option_map, option_to_list, Result, Ok, Err, codes, refl}
 use Rattle.std.specs.Option.{option_or}
-use Rattle.netlist.specs.Circuit.{Circuit}
-use Rattle.netlist.specs.Circuits.{half, gate}
-use Rattle.netlist.specs.declared.gate_word.GateWord.TheVariants.{Nand, Buff}
+use Rattle.circuits.specs.Circuit.{Circuit}
+use Rattle.circuits.specs.Examples.{half, gate}
+use Rattle.circuits.specs.declared.gate_word.GateWord.TheVariants.{Nand, Buff}
 use Rattle.bench_reader.specs.declared.fault.BenchCause.TheVariants.{BadLine, DuplicateNet, UndefinedNet, Cycle, Sequential}
 use Rattle.bench_reader.specs.declared.fault.BenchError.{BenchError}
 use Rattle.bench_reader.specs.declared.fault.BenchError.TheVariants.{Fault, Memory}

@@ -1,10 +1,10 @@
 -- What lines say, and the circuit of all that they say.
 use Rattle.std.specs.Prelude.{◌≡◌, ℕ, List, [], ◌∷◌, ◌++◌, map, fold, filter_map, position, Option, Some, None, unwrap_or, option_map, codes, bytes_eq, if◌then◌else◌, refl}
 use Rattle.std.specs.List.{list_any}
-use Rattle.netlist.specs.Circuit.{Circuit, Gate}
-use Rattle.netlist.specs.Circuits.{half, late}
-use Rattle.netlist.specs.declared.gate_word.GateWord.{GateWord}
-use Rattle.netlist.specs.declared.gate_word.GateWord.TheVariants.{And, Not, Xor}
+use Rattle.circuits.specs.Circuit.{Circuit, Gate}
+use Rattle.circuits.specs.Examples.{half, late}
+use Rattle.circuits.specs.declared.gate_word.GateWord.{GateWord}
+use Rattle.circuits.specs.declared.gate_word.GateWord.TheVariants.{And, Not, Xor}
 use Rattle.bench_reader.specs.Forms.{Form, empty, input, output, gate, no_form, form_of}
 use Rattle.bench_reader.specs.Words.{gate_word}
 

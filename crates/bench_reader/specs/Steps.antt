@@ -2,7 +2,7 @@
 use Rattle.std.specs.Prelude.{◌≡◌, ℕ, Bool, List, [], ◌∷◌, Option, Some, None, Result, Ok, Err, option_map, is_some, length, fold, if◌then◌else◌}
 use Rattle.std.specs.List.{list_any}
 use Rattle.std.specs.Option.{option_or}
-use Rattle.netlist.specs.Limits.{AcceptsArity}
+use Rattle.circuits.specs.Limits.{AcceptsArity}
 use Rattle.netlist.specs.Draft.{Draft, nothing, with_input, with_gate, with_output, input_fault, gate_fault, output_fault}
 use Rattle.netlist.specs.declared.fault.NetCause.{NetCause}
 use Rattle.netlist.specs.declared.fault.NetCause.TheVariants as net

@@ -1,6 +1,6 @@
 -- The symbols of a line: names, and the four signs ( ) , =
 use Rattle.std.specs.Prelude.{◌≡◌, ℕ, ◌==◌, Bool, true, false, ◌||◌, List, [], ◌∷◌, ◌++◌, codes, filter, if◌then◌else◌, refl}
-use Rattle.netlist.specs.Names.{is_name_byte}
+use Rattle.circuits.specs.Names.{is_name_byte}
 
 -- a stray byte belongs to no symbol and is no white space
 pub data Symbol : Type 0 where

@@ -1,8 +1,8 @@
 -- The words of a line, in any ASCII case.
 use Rattle.std.specs.Prelude.{◌≡◌, ℕ, List, [], ◌∷◌, find, Option, Some, None, option_map, codes, refl}
 use Rattle.std.specs.Str.{str_eq_ignore_ascii_case}
-use Rattle.netlist.specs.declared.gate_word.GateWord.{GateWord}
-use Rattle.netlist.specs.declared.gate_word.GateWord.TheVariants.{And, Nand, Or, Nor, Xor, Xnor, Not, Buff}
+use Rattle.circuits.specs.declared.gate_word.GateWord.{GateWord}
+use Rattle.circuits.specs.declared.gate_word.GateWord.TheVariants.{And, Nand, Or, Nor, Xor, Xnor, Not, Buff}
 
 abbrev pub gate_words : List (List ℕ × GateWord)
 gate_words =

@@ -1,6 +1,6 @@
 ghost use Rattle.std.specs.Prelude.{◌≡◌, ◌<◌, ◌≤◌, ◌∷◌, [], length, false, true, slice_index, IfSome, MatchOption};
 ghost use Rattle.bench_reader.specs.Symbols.{is_white, name, sign, symbols};
-ghost use Rattle.netlist.specs.Names.{is_name_byte};
+ghost use Rattle.circuits.specs.Names.{is_name_byte};
 ghost use Rattle.bench_reader.specs.Views.{seen_symbol};
 
 use crate::text::{is_of_name, name_len, white_len};

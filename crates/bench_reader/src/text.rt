@@ -3,7 +3,7 @@ ghost use Rattle.std.specs.List.{list_any, position_or_len};
 ghost use Rattle.bench_reader.specs.Faults.{is_above_127};
 ghost use Rattle.bench_reader.specs.Lines.{lines, uncommented};
 ghost use Rattle.bench_reader.specs.Symbols.{is_white};
-ghost use Rattle.netlist.specs.Names.{is_name_byte};
+ghost use Rattle.circuits.specs.Names.{is_name_byte};
 
 fn place_of(text: &[u8], byte: u8) -> Option<usize>
     ensures { result ≡ position (λ b. b == byte) text.now }

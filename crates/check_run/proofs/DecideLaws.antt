@@ -5,7 +5,7 @@ use Rattle.std.proofs.lemmas.Bool.{ltb-true}
 use Rattle.std.specs.Option.{option_map_or}
 use Rattle.word_base.specs.declared.kind_name.KindName.TheVariants.{Hdd}
 use Rattle.word_base.specs.Range.{InRange}
-use Rattle.netlist.specs.Circuit.{Circuit}
+use Rattle.circuits.specs.Circuit.{Circuit}
 use Rattle.spec_lang.specs.Placed.{net_values}
 use Rattle.spec_lang.specs.Formula.{Formula}
 use Rattle.spec_lang.specs.Specification.{Check, Specification, Word}

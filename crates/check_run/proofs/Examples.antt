@@ -3,8 +3,8 @@ use Rattle.std.specs.Prelude.{ℕ, pos, true, List, [], ◌∷◌, ◌++◌, cod
 use Rattle.std.specs.Fmt.{digits}
 use Rattle.std.specs.Str.{bytes_eq}
 use Rattle.std.proofs.Common.{lit≤, sym, ◌∙◌, subst, arith, inl, inr}
-use Rattle.netlist.specs.Circuit.{Circuit}
-use Rattle.netlist.specs.Circuits.{half}
+use Rattle.circuits.specs.Circuit.{Circuit}
+use Rattle.circuits.specs.Examples.{half}
 use Rattle.bench_reader.specs.Faults.{fault}
 use Rattle.bench_reader.specs.Reading.{reading}
 use Rattle.outside.specs.Shelf.{told, ShelfRose}

@@ -1,7 +1,7 @@
 -- Why a file stops a run.
 use Rattle.std.proofs.Common.{◌≡◌, subst, ℕ, ◌≤◌, List, arith, inl, inr}
 use Rattle.std.specs.Prelude.{Some}
-use Rattle.netlist.specs.Circuit.{Circuit}
+use Rattle.circuits.specs.Circuit.{Circuit}
 use Rattle.outside.specs.Count.{Rose}
 use Rattle.outside.specs.Shelf.{ShelfRose}
 use Rattle.report.specs.declared.refusal.Refusal.{Refusal}

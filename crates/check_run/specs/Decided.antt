@@ -1,6 +1,6 @@
 -- What is answered to a check.
 use Rattle.std.specs.Prelude.{◌≡◌, ℕ, true, IfSome, slice_get}
-use Rattle.netlist.specs.Circuit.{Circuit}
+use Rattle.circuits.specs.Circuit.{Circuit}
 use Rattle.spec_lang.specs.Specification.{Check, Specification}
 use Rattle.word_base.specs.declared.kind_name.KindName.TheVariants.{Hdd}
 use Rattle.word_base.specs.Range.{InRange}

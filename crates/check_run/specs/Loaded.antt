@@ -1,6 +1,6 @@
 -- What the two files say, and why they are not taken. `files` are those that the shelf tells.
 use Rattle.std.specs.Prelude.{◌≡◌, ◌⊎◌, ℕ, ◌≤◌, List, length, Option, Some, None, Ok, Err}
-use Rattle.netlist.specs.Circuit.{Circuit}
+use Rattle.circuits.specs.Circuit.{Circuit}
 use Rattle.bench_reader.specs.Reading.{reading}
 use Rattle.spec_lang.specs.Specification.{Specification}
 use Rattle.first_form.specs.FirstForm.{first_form}

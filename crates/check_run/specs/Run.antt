@@ -1,7 +1,7 @@
 -- What a run puts out, and with what status it ends.
 use Rattle.std.specs.Prelude.{◌≡◌, ◌⊎◌, ℕ, ◌≤◌, Bool, true, false, List, [], ◌∷◌, ◌++◌, length, map, Option, Some, Ok, slice_get}
 use Rattle.std.specs.Io.KnownBytes.{append_known}
-use Rattle.netlist.specs.Circuit.{Circuit, name_of}
+use Rattle.circuits.specs.Circuit.{Circuit, name_of}
 use Rattle.bench_reader.specs.Reading.{reading}
 use Rattle.spec_lang.specs.Specification.{Check, Specification}
 use Rattle.first_form.specs.FirstForm.{first_form}

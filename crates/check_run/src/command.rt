@@ -3,7 +3,7 @@ ghost use Rattle.check_run.specs.Halted.{IsHalted};
 ghost use Rattle.check_run.specs.Loaded.{FailsToRead};
 ghost use Rattle.check_run.specs.Run.{Accepts, Answers, MeetsNoLimit, PutsAll, PutsPart, Says, is_written};
 ghost use Rattle.checks.specs.Report.{status_of};
-ghost use Rattle.netlist.specs.Circuit.{Circuit};
+ghost use Rattle.circuits.specs.Circuit.{Circuit};
 ghost use Rattle.report.specs.Verdicts.{plain};
 ghost use Rattle.spec_lang.specs.Specification.{Check, Specification};
 

@@ -1,9 +1,9 @@
 -- Worked checks: node counts, first differences, and work counted by hand.
 use Rattle.std.specs.Prelude.{◌≡◌, ℕ, ◌+◌, pos, negsuc, true, false, List, [], ◌∷◌, length, codes, refl}
 use Rattle.std.specs.List.{list_all}
-use Rattle.netlist.specs.Circuit.{Circuit}
-use Rattle.netlist.specs.Circuits.{gate, half, c17}
-use Rattle.netlist.specs.declared.gate_word.GateWord.TheVariants.{And, Nor, Or, Not}
+use Rattle.circuits.specs.Circuit.{Circuit}
+use Rattle.circuits.specs.Examples.{gate, half, c17}
+use Rattle.circuits.specs.declared.gate_word.GateWord.TheVariants.{And, Nor, Or, Not}
 use Rattle.spec_lang.specs.Formula.{Formula, number, word, sum, difference, product}
 use Rattle.spec_lang.specs.Specification.{Check, Specification, single, half_adder, half_adder_check}
 use Rattle.tables.specs.Table.{entry, halves}

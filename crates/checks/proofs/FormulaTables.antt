@@ -1,8 +1,8 @@
 -- The tables of nets and formulas are over all levels, and the table of a formula is made of those of its parts.
 use Rattle.std.specs.Prelude.{neg_ℤ, ◌+ℤ◌, ◌-ℤ◌, ◌*ℤ◌, length, refl}
 use Rattle.std.proofs.Common.{sym}
-use Rattle.netlist.specs.Polynomial.{number_of}
-use Rattle.netlist.specs.Valuation.{bit_of}
+use Rattle.circuits.specs.Polynomial.{number_of}
+use Rattle.circuits.specs.Valuation.{bit_of}
 use Rattle.spec_lang.specs.Placed.{net_values}
 use Rattle.spec_lang.specs.Value.{value}
 use Rattle.checks.proofs.Tabulated.{IsOver-tabulate, each-tabulate, zip_with-tabulate}

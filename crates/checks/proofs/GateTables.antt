@@ -2,12 +2,12 @@
 use Rattle.std.specs.Prelude.{◌≡◌, ℕ, ◌<◌, Bool, List, [], ◌∷◌, map, length, Some, refl}
 use Rattle.std.proofs.Common.{sym, ◌∙◌, ap, arith}
 use Rattle.std.proofs.lemmas.List.{length-map}
-use Rattle.netlist.proofs.Polynomials.{polynomial-is_truth}
-use Rattle.netlist.proofs.Rounds.{IsValuation-valuation}
-use Rattle.netlist.specs.Circuit.{Circuit, Gate, input_count, gate_of}
-use Rattle.netlist.specs.Order.{IsAccepted}
-use Rattle.netlist.specs.Polynomial.{number_of, polynomial}
-use Rattle.netlist.specs.Valuation.{bit_of, IsValuation, valuation}
+use Rattle.circuits.proofs.Polynomials.{polynomial-is_truth}
+use Rattle.circuits.proofs.Rounds.{IsValuation-valuation}
+use Rattle.circuits.specs.Circuit.{Circuit, Gate, input_count, gate_of}
+use Rattle.circuits.specs.Order.{IsAccepted}
+use Rattle.circuits.specs.Polynomial.{number_of, polynomial}
+use Rattle.circuits.specs.Valuation.{bit_of, IsValuation, valuation}
 use Rattle.spec_lang.proofs.Placed.{length-placed}
 use Rattle.spec_lang.specs.Placed.{placed, net_values}
 use Rattle.checks.proofs.Tabulated.{tabulate-same, gate-tabulate}

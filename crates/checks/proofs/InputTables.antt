@@ -3,9 +3,9 @@ use Rattle.std.specs.Prelude.{◌≡◌, ℕ, zero, suc, ◌<◌, Bool, false, L
 use Rattle.std.proofs.Common.{◌∙◌, ap, arith}
 use Rattle.std.proofs.lemmas.List.{get_or_append_left}
 use Rattle.std.proofs.lemmas.List.FromFn.{get_or-map-range_with_len}
-use Rattle.netlist.specs.Circuit.{Circuit, input_count}
-use Rattle.netlist.specs.Polynomial.{number_of}
-use Rattle.netlist.specs.Valuation.{bit_of, gate_value, after_rounds}
+use Rattle.circuits.specs.Circuit.{Circuit, input_count}
+use Rattle.circuits.specs.Polynomial.{number_of}
+use Rattle.circuits.specs.Valuation.{bit_of, gate_value, after_rounds}
 use Rattle.spec_lang.proofs.Placed.{length-placed}
 use Rattle.spec_lang.specs.Placed.{place_in, placed, net_values}
 use Rattle.tables.proofs.TableLaws.{both_halves}

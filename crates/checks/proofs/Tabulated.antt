@@ -1,8 +1,8 @@
 -- Tables that are tabulated: functions of their entries are tabulated too.
 use Rattle.std.specs.Prelude.{◌≡◌, ℕ, zero, suc, ◌<◌, ℤ, pos, ◌-ℤ◌, Bool, true, false, if◌then◌else◌, List, [], ◌∷◌, length, map, fold, refl}
 use Rattle.std.proofs.Common.{◌∙◌, ap, arith}
-use Rattle.netlist.specs.Polynomial.{negation, is_negated, step, polynomial}
-use Rattle.netlist.specs.declared.gate_word.GateWord.{GateWord}
+use Rattle.circuits.specs.Polynomial.{negation, is_negated, step, polynomial}
+use Rattle.circuits.specs.declared.gate_word.GateWord.{GateWord}
 use Rattle.tables.proofs.TableLaws.{both_halves}
 use Rattle.tables.specs.Table.{Table, entry, IsOver, each, zip_with, minus, tabulate}
 use Rattle.tables.specs.Pieces.{like}

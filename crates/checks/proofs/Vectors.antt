@@ -1,9 +1,9 @@
 -- Checks of small netlists, as another program computed them from the same definitions: the need, whether the check is over
 -- the range of weights, and the answer. Each specification stands above its data, its lines parted by /.
 use Rattle.std.specs.Prelude.{◌≡◌, pos, negsuc, true, false, [], ◌∷◌, codes, refl}
-use Rattle.netlist.specs.Circuit.{Circuit}
-use Rattle.netlist.specs.Circuits.{gate, half}
-use Rattle.netlist.specs.declared.gate_word.GateWord.TheVariants.{And, Nand, Or, Nor, Xor, Xnor, Not}
+use Rattle.circuits.specs.Circuit.{Circuit}
+use Rattle.circuits.specs.Examples.{gate, half}
+use Rattle.circuits.specs.declared.gate_word.GateWord.TheVariants.{And, Nand, Or, Nor, Xor, Xnor, Not}
 use Rattle.spec_lang.specs.Formula.{number, word, negative, sum, difference, product}
 use Rattle.spec_lang.specs.Specification.{Check, Specification}
 use Rattle.word_base.specs.declared.decomp.Decomp.{Decomp}

@@ -4,8 +4,8 @@ use Rattle.std.specs.List.{enumerate_from}
 use Rattle.std.proofs.Common.{sym, ◌∙◌, ap, arith, add-one}
 use Rattle.std.proofs.Math.Nat.{mul_comm, mul_assoc, pow-succ', two-pow-succ}
 use Rattle.std.proofs.lemmas.List.Sums.{fold-append}
-use Rattle.netlist.specs.Polynomial.{number_of}
-use Rattle.netlist.specs.Valuation.{bit_of}
+use Rattle.circuits.specs.Polynomial.{number_of}
+use Rattle.circuits.specs.Valuation.{bit_of}
 use Rattle.spec_lang.specs.Placed.{net_values}
 use Rattle.spec_lang.specs.Value.{digit_of, word_value, nets_of}
 use Rattle.tables.proofs.TableLaws.{times_one}

@@ -1,7 +1,7 @@
 -- The laws of these definitions. Each is the contract of a function of src/laws.rt.
 use Rattle.std.specs.Prelude.{◌≡◌, ℕ, ◌+◌, ◌<◌, ◌^◌, ℤ, pos, List, [], ◌∷◌, ◌++◌, map, length, take, slice_index_or, Some, None}
-use Rattle.netlist.specs.Circuit.{Circuit, Gate, input_count, gate_of}
-use Rattle.netlist.specs.Order.{IsAccepted}
+use Rattle.circuits.specs.Circuit.{Circuit, Gate, input_count, gate_of}
+use Rattle.circuits.specs.Order.{IsAccepted}
 use Rattle.spec_lang.specs.Formula.{Formula, number, word, negative, sum, difference, product}
 use Rattle.spec_lang.specs.Placed.{place_in}
 use Rattle.spec_lang.specs.Specification.{Specification}

@@ -2,9 +2,8 @@
 use Rattle.std.proofs.Common.{◌≡◌, refl, sym, ◌∙◌, ap, subst, ℕ, pos, zero, suc, ◌+◌, ◌<◌, Bool, true, false, List, [], ◌∷◌, ◌++◌, length, take, get_or, arith, eqb-true, ⊎_elim}
 use Rattle.std.specs.Prelude.{◌==◌, ◌||◌, slice_index_or, slice_set, Contains, map}
 use Rattle.std.proofs.lemmas.Bool.{cases_Bool}
-use Rattle.std.proofs.lemmas.List.{get_or-set_same, get_or-set_other, length-set, take_more, map-append}
-use Rattle.netlist.proofs.Waits.{get_or-any}
-use Rattle.netlist.proofs.Members.{Contains-cons, Contains-head}
+use Rattle.std.proofs.lemmas.List.{get_or_default, get_or-set_same, get_or-set_other, length-set, take_more, map-append}
+use Rattle.circuits.proofs.Members.{Contains-cons, Contains-head}
 use Rattle.tables.specs.Table.{Table}
 use Rattle.kind_laws.specs.declared.edge.Edge.{Edge}
 use Rattle.diagram.specs.View.{View, StandsAt, IsEdge, Keeps}
@@ -82,7 +81,7 @@ pub gathered_more : (edges : List Edge) (nets : List ℕ) (i : ℕ) (d e : Edge)
     into ++ e ∷ [] ≡ map (λ net. slice_index_or edges net d) (take (i + 1) nets)
 gathered_more edges nets i d e into low within so_far is =
     let f : ℕ → Edge = λ net. slice_index_or edges net d in
-    let last : e ≡ f (get_or nets i 0) = is ∙ get_or-any edges (get_or nets i 0) e d within in
+    let last : e ≡ f (get_or nets i 0) = is ∙ get_or_default edges (get_or nets i 0) e d within in
     ap (λ (es : List Edge). es ++ e ∷ []) so_far ∙ ap (λ (x : Edge). map f (take i nets) ++ x ∷ []) last
     ∙ sym (ap (map f) (take_more nets i 0 low) ∙ map-append f (take i nets) (get_or nets i 0 ∷ []))
 

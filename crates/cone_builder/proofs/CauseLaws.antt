@@ -5,7 +5,7 @@ use Rattle.std.specs.Option.{option_map_or}
 use Rattle.std.specs.Result.{IsErrAnd}
 use Rattle.std.proofs.lemmas.Option.{slice_get-get_or}
 use Rattle.std.proofs.lemmas.List.Elements.{Contains-get_or}
-use Rattle.netlist.specs.Circuit.{Circuit, Gate, gate_of}
+use Rattle.circuits.specs.Circuit.{Circuit, Gate, gate_of}
 use Rattle.spec_lang.specs.Specification.{Word}
 use Rattle.spec_lang.specs.Value.{nets_of}
 use Rattle.word_base.specs.declared.decomp.Decomp.{Decomp}
@@ -31,8 +31,8 @@ use Rattle.cone_builder.proofs.GateLaws.{GatesSoFar, is_input}
 use Rattle.cone_builder.proofs.InputLaws.{InputsSoFar}
 use Rattle.cone_builder.proofs.WordLaws.{WordsSoFar}
 use Rattle.diagram.specs.Results.{variable_table}
-use Rattle.netlist.specs.Valuation.{bit_of}
-use Rattle.netlist.proofs.Members.{among-from_Contains}
+use Rattle.circuits.specs.Valuation.{bit_of}
+use Rattle.circuits.proofs.Members.{among-from_Contains}
 
 -- ---- results
 -- what answers has no cause to give

@@ -2,13 +2,13 @@
 use Rattle.std.proofs.Common.{◌≡◌, refl, sym, ◌∙◌, ap, subst, ℕ, ◌+◌, ◌<◌, Bool, true, false, ◌||◌, List, [], ◌∷◌, length, take, get_or, map, arith}
 use Rattle.std.specs.Prelude.{◌==◌, slice_set, slice_index_or, Option, Some, IfSome, Contains}
 use Rattle.std.proofs.lemmas.Option.{slice_get-get_or}
-use Rattle.netlist.specs.Circuit.{Circuit, Gate, gate_of, net_count}
-use Rattle.netlist.specs.Limits.{AcceptsArity}
-use Rattle.netlist.specs.Nets.{IsSound}
-use Rattle.netlist.specs.Order.{IsInput, is_among}
-use Rattle.netlist.specs.declared.gate_word.GateWord.{GateWord}
-use Rattle.netlist.specs.declared.gate_word.GateWord.TheVariants.{And, Nand, Or, Nor, Xor, Xnor, Not, Buff}
-use Rattle.netlist.proofs.Settled.{gate-sized}
+use Rattle.circuits.specs.Circuit.{Circuit, Gate, gate_of, net_count}
+use Rattle.circuits.specs.Limits.{AcceptsArity}
+use Rattle.circuits.specs.Sound.{IsSound}
+use Rattle.circuits.specs.Order.{IsInput, is_among}
+use Rattle.circuits.specs.declared.gate_word.GateWord.{GateWord}
+use Rattle.circuits.specs.declared.gate_word.GateWord.TheVariants.{And, Nand, Or, Nor, Xor, Xnor, Not, Buff}
+use Rattle.circuits.proofs.Gates.{gate-sized}
 use Rattle.tables.specs.Table.{Table}
 use Rattle.checks.specs.Work.{gate_table}
 use Rattle.kind_laws.specs.declared.edge.Edge.{Edge}

@@ -2,8 +2,8 @@
 use Rattle.std.proofs.Common.{◌≡◌, refl, sym, ◌∙◌, ap, subst, ℕ, zero, suc, ◌+◌, ◌<◌, Bool, true, false, ◌&&◌, ◌||◌, List, [], ◌∷◌, ◌++◌, length, take, get_or, replicate, eqb-true}
 use Rattle.std.specs.Prelude.{◌==◌, slice_get, slice_set, Some}
 use Rattle.std.proofs.lemmas.List.{take_more, length-set}
-use Rattle.netlist.specs.Order.{is_among}
-use Rattle.netlist.specs.Valuation.{bit_of}
+use Rattle.circuits.specs.Order.{is_among}
+use Rattle.circuits.specs.Valuation.{bit_of}
 use Rattle.std.specs.Prelude.{Ok}
 use Rattle.tables.specs.Pieces.{Piece, pieces}
 use Rattle.tables.specs.Table.{Table}

@@ -7,14 +7,14 @@ use Rattle.std.proofs.lemmas.List.{length-drop, append-nil, take_all}
 use Rattle.std.proofs.Math.Seq.{drop-length}
 use Rattle.std.proofs.lemmas.List.Elements.{All-from_get_or, All-contains, All-head, All-tail, Contains-get_or}
 use Rattle.std.proofs.lemmas.Option.{get_or_from_slice_get, slice_get_cases}
-use Rattle.netlist.specs.Circuit.{Circuit, Gate, IsGate, gate_of, input_count, net_count}
-use Rattle.netlist.specs.Cone.{cone, is_in_cone, IsReachedFrom}
-use Rattle.netlist.specs.Nets.{IsSound}
-use Rattle.netlist.specs.Order.{IsAccepted, IsInput, step, is_among}
-use Rattle.netlist.specs.Valuation.{bit_of}
-use Rattle.netlist.proofs.Cones.{cone-complete, is_in_cone-reached}
-use Rattle.netlist.proofs.Descent.{reaches_on}
-use Rattle.netlist.proofs.Members.{Contains-from_among, Contains-nil, among-from_Contains}
+use Rattle.circuits.specs.Circuit.{Circuit, Gate, IsGate, gate_of, input_count, net_count}
+use Rattle.circuits.specs.Cone.{cone, is_in_cone, IsReachedFrom}
+use Rattle.circuits.specs.Sound.{IsSound}
+use Rattle.circuits.specs.Order.{IsAccepted, IsInput, step, is_among}
+use Rattle.circuits.specs.Valuation.{bit_of}
+use Rattle.circuits.proofs.Cones.{cone-complete, is_in_cone-reached}
+use Rattle.circuits.proofs.Descent.{reaches_on}
+use Rattle.circuits.proofs.Members.{Contains-from_among, Contains-nil, among-from_Contains}
 use Rattle.spec_lang.specs.Named.{nets_named}
 use Rattle.spec_lang.specs.Specification.{Check, Specification, Word}
 use Rattle.spec_lang.specs.Value.{nets_of}

@@ -5,9 +5,9 @@ use Rattle.std.proofs.lemmas.List.Elements.{Contains-append_left, Contains-appen
 use Rattle.std.proofs.lemmas.Option.{get_or_from_slice_get}
 use Rattle.word_base.specs.declared.decomp.Decomp.{Decomp}
 use Rattle.word_base.specs.declared.kind_name.KindName.TheVariants.{Hdd}
-use Rattle.netlist.specs.Circuit.{Circuit, net_count}
-use Rattle.netlist.specs.Order.{is_among}
-use Rattle.netlist.proofs.Members.{Contains-head, among-from_Contains}
+use Rattle.circuits.specs.Circuit.{Circuit, net_count}
+use Rattle.circuits.specs.Order.{is_among}
+use Rattle.circuits.proofs.Members.{Contains-head, among-from_Contains}
 use Rattle.spec_lang.specs.Formula.{Formula, number, word, negative, sum, difference, product}
 use Rattle.spec_lang.specs.Named.{namings, nets_named, words_of_check}
 use Rattle.spec_lang.specs.Specification.{Check, Specification, Word}

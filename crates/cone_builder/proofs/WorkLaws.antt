@@ -4,12 +4,12 @@ use Rattle.std.specs.Prelude.{Contains, filter, flat_map, IfSome, Result, slice_
 use Rattle.std.specs.List.{range_with_len}
 use Rattle.std.proofs.lemmas.List.FromFn.{length-range_with_len, get_or-range_with_len}
 use Rattle.std.proofs.lemmas.List.Elements.{Contains-append_left, Contains-append_right, Contains-get_or}
-use Rattle.netlist.specs.Circuit.{Circuit, input_count, net_count}
-use Rattle.netlist.specs.Cone.{cone, is_in_cone}
-use Rattle.netlist.specs.Nets.{IsSound}
-use Rattle.netlist.specs.Order.{IsAccepted, is_among}
-use Rattle.netlist.specs.Valuation.{bit_of}
-use Rattle.netlist.proofs.Members.{Contains-cases, Contains-cons, Contains-from_among, Contains-head, Contains-nil, among-from_Contains}
+use Rattle.circuits.specs.Circuit.{Circuit, input_count, net_count}
+use Rattle.circuits.specs.Cone.{cone, is_in_cone}
+use Rattle.circuits.specs.Sound.{IsSound}
+use Rattle.circuits.specs.Order.{IsAccepted, is_among}
+use Rattle.circuits.specs.Valuation.{bit_of}
+use Rattle.circuits.proofs.Members.{Contains-cases, Contains-cons, Contains-from_among, Contains-head, Contains-nil, among-from_Contains}
 use Rattle.spec_lang.specs.Formula.{Formula, word}
 use Rattle.spec_lang.specs.Named.{namings, nets_named, words_of_check}
 use Rattle.spec_lang.specs.Specification.{Check, Specification}

@@ -1,8 +1,8 @@
 -- Which edges of a list are built.
 use Rattle.std.specs.Prelude.{◌≡◌, ℕ, ◌<◌, true, Bool, ◌&&◌, ◌||◌, List, length, take, map, slice_get, slice_index_or, IfSome, Some}
-use Rattle.netlist.specs.Circuit.{Circuit, gate_of, net_count}
-use Rattle.netlist.specs.Order.{IsInput, is_among}
-use Rattle.netlist.specs.Valuation.{bit_of}
+use Rattle.circuits.specs.Circuit.{Circuit, gate_of, net_count}
+use Rattle.circuits.specs.Order.{IsInput, is_among}
+use Rattle.circuits.specs.Valuation.{bit_of}
 use Rattle.spec_lang.specs.Named.{nets_named}
 use Rattle.spec_lang.specs.Specification.{Word, Specification}
 use Rattle.spec_lang.specs.Value.{nets_of}

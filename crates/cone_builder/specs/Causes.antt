@@ -2,8 +2,8 @@
 use Rattle.std.specs.Prelude.{◌≡◌, ℕ, List, [], ◌∷◌, ◌++◌, Result, Ok, Err, Contains, map, refl}
 use Rattle.std.specs.Option.{option_map_or}
 use Rattle.std.proofs.lemmas.List.Elements.{Contains-append_right}
-use Rattle.netlist.specs.Circuit.{Circuit, gate_of}
-use Rattle.netlist.specs.Circuits.{half}
+use Rattle.circuits.specs.Circuit.{Circuit, gate_of}
+use Rattle.circuits.specs.Examples.{half}
 use Rattle.word_base.specs.declared.decomp.Decomp.{Decomp}
 use Rattle.word_base.specs.declared.decomp.Decomp.TheVariants.{P}
 use Rattle.tables.specs.Table.{Table}

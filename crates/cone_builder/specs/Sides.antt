@@ -1,6 +1,6 @@
 -- What the edges of a check's sides stand for, and why they were not built.
 use Rattle.std.specs.Prelude.{◌≡◌, IfSome, List, codes, slice_get, ℕ, refl}
-use Rattle.netlist.specs.Circuit.{Circuit}
+use Rattle.circuits.specs.Circuit.{Circuit}
 use Rattle.spec_lang.specs.Specification.{Specification}
 use Rattle.checks.specs.Sides.{side}
 use Rattle.kind_laws.specs.declared.edge.Edge.{Edge}

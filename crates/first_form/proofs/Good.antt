@@ -9,8 +9,8 @@ use Rattle.std.proofs.lemmas.Bool.{ltb-true}
 use Rattle.std.proofs.lemmas.List.{length_push, length-map, length-append}
 use Rattle.std.proofs.lemmas.List.Elements.{All-nil, All-cons, All-append, All-push}
 use Rattle.std.proofs.lemmas.Option.{cond_some, option_and_then_some}
-use Rattle.netlist.specs.Circuit.{Circuit, net_count}
-use Rattle.netlist.specs.Names.{net_of, names_of}
+use Rattle.circuits.specs.Circuit.{Circuit, net_count}
+use Rattle.circuits.specs.Names.{net_of, names_of}
 use Rattle.spec_lang.specs.Formula.{Formula, number, word, product, sum}
 use Rattle.spec_lang.specs.Named.{namings}
 use Rattle.spec_lang.specs.Specification.{Word, Check, named_word}

@@ -4,7 +4,7 @@ use Rattle.std.specs.List.{before_first, after_first, position_or_len}
 use Rattle.std.specs.Option.{option_map}
 use Rattle.std.proofs.lemmas.Bool.{cond-true, cond-false, cases_Bool, and_parts, ltb-false, ltb-true, leb-true}
 use Rattle.std.proofs.lemmas.List.{take-map, drop-map, length-map, drop_all}
-use Rattle.netlist.specs.Circuit.{Circuit}
+use Rattle.circuits.specs.Circuit.{Circuit}
 use Rattle.spec_lang.specs.Formula.{Formula}
 use Rattle.spec_lang.specs.Specification.{Word, named_word}
 use Rattle.first_form.specs.FirstForm.{net_numbers, is_new, is_word_line, word_line, most_symbols, is_equality, both_sides, sides}

@@ -9,10 +9,10 @@ use Rattle.std.proofs.lemmas.Bool.Decides.{nat_tests}
 use Rattle.std.proofs.lemmas.List.{at_drop_more, at_drop_all, get_or-map, length-map, append-nil}
 use Rattle.std.proofs.lemmas.Str.{IsUtf8-from_ascii}
 use Rattle.std.proofs.lemmas.Str.Ascii.{IsAscii-nil, IsAscii-cons}
-use Rattle.netlist.specs.Circuit.{Circuit}
+use Rattle.circuits.specs.Circuit.{Circuit}
 use Rattle.first_form.proofs.Numbers.{ascii_where, digit_is_small}
 use Rattle.first_form.specs.FirstForm.{net_numbers}
-use Rattle.netlist.specs.Names.{is_name_byte}
+use Rattle.circuits.specs.Names.{is_name_byte}
 use Rattle.first_form.specs.Names.{is_short, is_net_name, is_first_byte, is_later_byte, is_identifier, is_keyword, is_word_name, net_number}
 
 name_byte_is_small : (b : ℕ) → is_name_byte b ≡ true → b < 128

@@ -2,7 +2,7 @@
 use Rattle.std.proofs.Common.{◌≡◌, ℕ, ◌+◌, ◌<◌, true, false, List, [], ◌∷◌, ◌++◌, length, map, drop, get_or, Option, Some, None, refl, sym, ap, ◌∙◌}
 use Rattle.std.specs.Option.{option_map, option_and_then}
 use Rattle.std.proofs.lemmas.List.{at_drop_more, get_or-map, length-map, drop-map}
-use Rattle.netlist.specs.Circuit.{Circuit}
+use Rattle.circuits.specs.Circuit.{Circuit}
 use Rattle.spec_lang.specs.Specification.{Word, Specification}
 use Rattle.word_base.specs.declared.kind_name.KindName.{KindName}
 use Rattle.first_form.specs.FirstForm.{said, is_end, with_usual, check_line, word_line}

@@ -3,8 +3,8 @@ use Rattle.std.specs.Prelude.{◌≡◌, ℕ, Bool, true, false, ◌&&◌, not, 
 use Rattle.std.specs.List.{list_any, before_first, after_first, range_with_len}
 use Rattle.std.specs.Option.{option_map, option_and_then}
 use Rattle.std.specs.Str.{bytes_eq}
-use Rattle.netlist.specs.Circuit.{Circuit, input_count}
-use Rattle.netlist.specs.Circuits.{half}
+use Rattle.circuits.specs.Circuit.{Circuit, input_count}
+use Rattle.circuits.specs.Examples.{half}
 use Rattle.spec_lang.specs.Formula.{Formula, number, word, sum, product}
 use Rattle.spec_lang.specs.Specification.{Word, Check, Specification, named_word, specification, single, half_adder}
 use Rattle.spec_lang.specs.WellFormed.{most_words, most_nets_of_word}

@@ -1,6 +1,6 @@
 -- What holds of the words of a text, as far as it was read.
 use Rattle.std.specs.Prelude.{◌<◌, ◌≤◌, List, length, All}
-use Rattle.netlist.specs.Circuit.{Circuit, net_count}
+use Rattle.circuits.specs.Circuit.{Circuit, net_count}
 use Rattle.spec_lang.specs.Specification.{Word}
 use Rattle.spec_lang.specs.WellFormed.{IsSizedWord, most_words}
 

@@ -3,10 +3,10 @@ use Rattle.std.specs.Prelude.{◌≡◌, ℕ, ◌==◌, Bool, true, false, not, 
 use Rattle.std.specs.Char.{is_ascii_alphabetic, is_ascii_digit}
 use Rattle.std.specs.List.{list_any, list_all}
 use Rattle.std.specs.Str.{bytes_eq}
-use Rattle.netlist.specs.Circuit.{Circuit}
-use Rattle.netlist.specs.Circuits.{half}
-use Rattle.netlist.specs.Limits.{longest_name}
-use Rattle.netlist.specs.Names.{is_name_byte, net_of}
+use Rattle.circuits.specs.Circuit.{Circuit}
+use Rattle.circuits.specs.Examples.{half}
+use Rattle.circuits.specs.Limits.{longest_name}
+use Rattle.circuits.specs.Names.{is_name_byte, net_of}
 
 abbrev pub is_short : List ℕ → Bool
 is_short name = nat_le (length name) longest_name

@@ -1,7 +1,7 @@
 ghost use Rattle.std.specs.Prelude.{◌≡◌};
 ghost use Rattle.std.specs.List.{list_all};
 ghost use Rattle.first_form.specs.Names.{is_first_byte, is_later_byte, is_identifier, is_keyword, is_net_name, is_word_name};
-ghost use Rattle.netlist.specs.Names.{is_name_byte};
+ghost use Rattle.circuits.specs.Names.{is_name_byte};
 
 use crate::text::is;
 

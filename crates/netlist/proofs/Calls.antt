@@ -4,7 +4,7 @@ use Rattle.std.specs.List.{list_any, range_with_len}
 use Rattle.std.specs.Option.{option_map, option_map_or}
 use Rattle.std.proofs.Common.{sym, ◌∙◌, ap, subst, ⊎_elim, arith, add-one}
 use Rattle.std.proofs.lemmas.Bool.{cases_Bool, cond-true, cond-false}
-use Rattle.netlist.proofs.Members.{Contains-nil, Contains-cases, Contains-head}
+use Rattle.circuits.proofs.Members.{Contains-nil, Contains-cases, Contains-head}
 use Rattle.netlist.specs.Draft.{GateLine}
 use Rattle.std.proofs.lemmas.List.{take_more, map_push, map-append}
 use Rattle.std.proofs.lemmas.List.Elements.{filter-append}

@@ -6,13 +6,13 @@ use Rattle.std.proofs.Common.{sym, ◌∙◌, ap, subst, inl, inr, ⊎_elim, ari
 use Rattle.std.proofs.lemmas.Bool.{cases_Bool, cases_lt, both_ways, false≢true, false_from_ne_true, or_cases}
 use Rattle.std.proofs.lemmas.List.{append_assoc, length_push, same_from_push}
 use Rattle.netlist.proofs.DepthFirst.{count-from_among, among-from_count}
-use Rattle.netlist.proofs.Descent.{reaches_on}
+use Rattle.circuits.proofs.Descent.{reaches_on}
 use Rattle.netlist.proofs.Marking.{leads_on}
-use Rattle.netlist.proofs.Members.{Contains-from_among, among-from_Contains, Contains-nil, among-append, among-append_left, among-append_right}
+use Rattle.circuits.proofs.Members.{Contains-from_among, among-from_Contains, Contains-nil, among-append, among-append_left, among-append_right}
 use Rattle.netlist.proofs.Waits.{list_at-past}
-use Rattle.netlist.specs.Circuit.{Circuit, net_count, fanin}
+use Rattle.circuits.specs.Circuit.{Circuit, net_count, fanin}
 use Rattle.netlist.specs.Leads.{Leads, at_once, by_way}
-use Rattle.netlist.specs.Order.{IsInput, Reaches, step, steps, is_among}
+use Rattle.circuits.specs.Order.{IsInput, Reaches, step, steps, is_among}
 use Rattle.netlist.specs.Postorder.{ComesAfter, IsPostorder, none, more}
 use Rattle.netlist.specs.Waiting.{CountsReaders, list_at}
 

@@ -2,17 +2,17 @@
 use Rattle.std.specs.Prelude.{◌≡◌, ℕ, true, List, length, None}
 use Rattle.std.proofs.Common.{⊎_elim, inl, inr}
 use Rattle.std.proofs.lemmas.Bool.{both_ways, false_from_ne_true}
-use Rattle.netlist.proofs.Accepted.{accepted-iff_full, reader_is_gate}
+use Rattle.circuits.proofs.Accepted.{accepted-iff_full, reader_is_gate}
 use Rattle.netlist.proofs.Calls.{none_least, least-if_none}
-use Rattle.netlist.proofs.Cones.{is_in_cone-reached}
-use Rattle.netlist.proofs.Members.{Contains-gate_nets}
-use Rattle.netlist.specs.Circuit.{Circuit, input_count, gate_nets, fanin}
-use Rattle.netlist.specs.Cone.{IsReachedFrom}
+use Rattle.circuits.proofs.Cones.{is_in_cone-reached}
+use Rattle.circuits.proofs.Members.{Contains-gate_nets}
+use Rattle.circuits.specs.Circuit.{Circuit, input_count, gate_nets, fanin}
+use Rattle.circuits.specs.Cone.{IsReachedFrom}
 use Rattle.netlist.specs.Draft.{GateLine}
 use Rattle.netlist.specs.Finish.{is_on_cycle}
 use Rattle.netlist.specs.Finishing.{call_at, cycle_call}
-use Rattle.netlist.specs.Nets.{IsSound}
-use Rattle.netlist.specs.Order.{IsAccepted, Reaches, step, steps, topological}
+use Rattle.circuits.specs.Sound.{IsSound}
+use Rattle.circuits.specs.Order.{IsAccepted, Reaches, step, steps, topological}
 
 -- on a cycle is what reaches itself
 pub circle-from : (c : Circuit) (net : ℕ) → is_on_cycle c net ≡ true → Reaches c net net

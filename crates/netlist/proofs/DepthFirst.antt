@@ -2,19 +2,19 @@
 use Rattle.std.specs.Prelude.{◌≡◌, ◌≢◌, ℕ, ◌+◌, ◌-◌, ◌*◌, ◌<◌, ◌≤◌, ◌⊎◌, Bool, true, false, not, ◌||◌, List, [], ◌∷◌, ◌++◌, length, nat_eq, sum_by, count_by, get_or, AllPairs, Contains, slice_index, slice_set, if◌then◌else◌, refl}
 use Rattle.std.proofs.Common.{sym, ◌∙◌, ap, subst, inl, inr, ⊎_elim, arith}
 use Rattle.std.proofs.lemmas.Bool.{cases_Bool, cases_lt, cases_eq, both_ways, false≢true, cond-true, cond-false, eq-eqb, ne_eqb, false_from_ne_true}
-use Rattle.std.proofs.lemmas.List.{append_assoc, map-append, map_push, length_push, length-set, get_or-set_same, get_or-set_other, set-get_or, get_or_append_left, get_or_push, get_or_past}
+use Rattle.std.proofs.lemmas.List.{append_assoc, map-append, map_push, length_push, length-set, get_or-set_same, get_or-set_other, set-get_or, get_or_append_left, get_or_default, get_or_push, get_or_past}
 use Rattle.std.proofs.lemmas.List.Elements.{Contains-get_or, Contains-push, Contains-push_cases, Contains-append_left, Contains-append_right, Contains-append_cases}
 use Rattle.std.proofs.lemmas.List.Quantifiers.{all_pairs_push}
 use Rattle.std.proofs.lemmas.List.Sums.{sum_by_push, sum_by-set, sum_by-cons}
-use Rattle.netlist.proofs.Descent.{reaches_on}
-use Rattle.netlist.proofs.Gates.{fanin-few}
-use Rattle.netlist.proofs.Members.{Contains-from_among, among-from_Contains, among-append_left, among-append_right, among_push, Contains-cases, Contains-cons, Contains-head, Contains-nil}
-use Rattle.netlist.proofs.Waits.{count_of_push, get_or-any}
-use Rattle.netlist.specs.Circuit.{Circuit, net_count, fanin}
-use Rattle.netlist.specs.Limits.{IsWithinLimits}
-use Rattle.netlist.specs.Order.{IsInput, Reaches, step, is_among}
+use Rattle.circuits.proofs.Descent.{reaches_on}
+use Rattle.circuits.proofs.Gates.{fanin-few}
+use Rattle.circuits.proofs.Members.{Contains-from_among, among-from_Contains, among-append_left, among-append_right, among_push, Contains-cases, Contains-cons, Contains-head, Contains-nil}
+use Rattle.netlist.proofs.Waits.{count_of_push}
+use Rattle.circuits.specs.Circuit.{Circuit, net_count, fanin}
+use Rattle.circuits.specs.Limits.{IsWithinLimits}
+use Rattle.circuits.specs.Order.{IsInput, Reaches, step, is_among}
 use Rattle.netlist.specs.Postorder.{none, more, visited, IsLooked, IsWalk}
-use Rattle.netlist.specs.Valuation.{bit_of}
+use Rattle.circuits.specs.Valuation.{bit_of}
 use Rattle.netlist.specs.Waiting.{count_of}
 use Rattle.netlist.specs.declared.postorder.Visit.{Visit}
 
@@ -209,7 +209,7 @@ module _ (c : Circuit) where
         of_net has = subst (λ x. bit_of seen x ≡ true) (e) ((walk.looked visit (Contains-push rest visit)).inputs has.0 (omega (arith, has.1)))
           where
             e : slice_index (fanin c net) has.0 ≡ input
-            e = get_or-any (fanin c net) has.0 0 input has.1 ∙ has.2
+            e = get_or_default (fanin c net) has.0 0 input has.1 ∙ has.2
 
     path' : AllPairs (Reaches c) (visited rest ++ net ∷ [])
     path' = subst (AllPairs (Reaches c)) (visited-push rest visit) walk.path

@@ -1,30 +1,12 @@
--- The half adder is accepted, and has what the laws say of accepted circuits. A gate that reads itself comes after its other inputs.
-use Rattle.std.specs.Prelude.{◌≡◌, ℕ, ◌<◌, ◌⊎◌, true, false, [], ◌∷◌, All, refl}
+-- A gate that reads itself comes after its other inputs.
+use Rattle.std.specs.Prelude.{◌≡◌, ℕ, ◌⊎◌, true, [], ◌∷◌, refl}
 use Rattle.std.proofs.Common.{sym, ap, subst, inl, inr, ⊎_elim, arith, eqb-true}
 use Rattle.std.proofs.lemmas.Bool.{or_cases, false≢true}
-use Rattle.std.proofs.lemmas.List.Elements.{All-nil, All-cons}
-use Rattle.netlist.proofs.Accepted.{accepted-iff_full}
 use Rattle.netlist.proofs.Circles.{last_of}
-use Rattle.netlist.proofs.Members.{Contains-cases, Contains-nil}
-use Rattle.netlist.proofs.Rounds.{IsValuation-valuation}
-use Rattle.netlist.proofs.Topological.{topological-complete}
-use Rattle.netlist.specs.Circuit.{IsGate, net_count}
-use Rattle.netlist.specs.Circuits.{half, looped}
-use Rattle.netlist.specs.Order.{IsAccepted, IsInput, IsTopologicalOrder, Reaches, step, steps, is_among}
+use Rattle.circuits.proofs.Members.{Contains-cases, Contains-nil}
+use Rattle.circuits.specs.Examples.{looped}
+use Rattle.circuits.specs.Order.{IsInput, Reaches, step, steps, is_among}
 use Rattle.netlist.specs.Postorder.{ComesAfter, IsPostorder, none, more}
-use Rattle.netlist.specs.Valuation.{IsValuation}
-
-half-outputs : All (λ net. net < net_count half) half.outputs
-half-outputs = All-cons (λ net. net < net_count half) 2 (3 ∷ []) (omega arith) (All-cons (λ net. net < net_count half) 3 [] (omega arith) (All-nil (λ net. net < net_count half)))
-
-half-accepted : IsAccepted half
-half-accepted = (accepted-iff_full half half-outputs).1 refl
-
-half-valued : IsValuation half (true ∷ true ∷ []) (true ∷ true ∷ false ∷ true ∷ [])
-half-valued = IsValuation-valuation half (true ∷ true ∷ []) refl half-accepted
-
-half-ordered : IsTopologicalOrder half (IsGate half) (2 ∷ 3 ∷ [])
-half-ordered = topological-complete half half-accepted
 
 looped-input : (input : ℕ) → IsInput looped 1 input → (input ≡ 1) ⊎ (input ≡ 0)
 looped-input input reads = ⊎_elim

@@ -10,20 +10,20 @@ use Rattle.std.proofs.lemmas.List.Elements.{All-map, All-weaker, Contains-get_or
 use Rattle.std.proofs.lemmas.Map.Keys.{IsDistinct-from_apart, any_passes_from_place}
 use Rattle.std.proofs.lemmas.Option.{slice_get-get_or, get_or_from_slice_get, slice_get-map, slice_get_cases}
 use Rattle.netlist.proofs.Calls.{least-append, none_least, earliest-None}
-use Rattle.netlist.proofs.Gates.{IsGate-from_input, gate_of-at}
-use Rattle.netlist.proofs.Members.{Contains-head, Contains-cases}
+use Rattle.circuits.proofs.Gates.{IsGate-from_input, gate_of-at}
+use Rattle.circuits.proofs.Members.{Contains-head, Contains-cases}
 use Rattle.netlist.proofs.Makers.{is_some-is_defined}
 use Rattle.netlist.proofs.Sources.{same-from_bytes_eq, place_of-found, found-within}
-use Rattle.netlist.specs.Circuit.{Gate, IsGate, net_count, gate_of}
+use Rattle.circuits.specs.Circuit.{Gate, IsGate, net_count, gate_of}
 use Rattle.netlist.specs.Draft.{Draft, GateLine, OutputLine, draft_names, is_defined}
 use Rattle.netlist.specs.Finish.{number, numbered, circuit_of, least, is_undefined, undefined_calls, undefined_fault, cycle_fault, finish_fault}
 use Rattle.netlist.specs.Fault.{fault}
 use Rattle.netlist.specs.declared.fault.NetCause.TheVariants.{UndefinedNet}
 use Rattle.netlist.specs.Finishing.{is_unknown, earliest, number_in, numbered_in, circuit_in, HasSmallNets}
-use Rattle.netlist.specs.Limits.{AcceptsArity, IsSizedGate}
+use Rattle.circuits.specs.Limits.{AcceptsArity, IsSizedGate}
 use Rattle.netlist.specs.Maker.{IsKept, IsSizedLine}
-use Rattle.netlist.specs.Nets.{IsSound}
-use Rattle.netlist.specs.Order.{IsInput}
+use Rattle.circuits.specs.Sound.{IsSound}
+use Rattle.circuits.specs.Order.{IsInput}
 use Rattle.netlist.specs.Source.{name_at, source_net, FindsNames}
 use Rattle.netlist.specs.declared.source.Source.{Source}
 use Rattle.netlist.specs.declared.source.Source.TheVariants.{Input, Gate as At_gate}

@@ -11,12 +11,12 @@ use Rattle.std.proofs.lemmas.Option.{slice_get-get_or}
 use Rattle.std.proofs.lemmas.List.Folds.{list_any-append}
 use Rattle.std.proofs.lemmas.List.Sums.{sum_by-cons}
 use Rattle.std.proofs.lemmas.List.Elements.{Contains-get_or}
-use Rattle.netlist.proofs.Gates.{IsGate-from_input}
-use Rattle.netlist.proofs.Members.{Contains-from_among, among-from_Contains, Contains-head, Contains-cases, find-Some, find-None, Contains-gate_nets, IsGate-from_gate_nets, length-gates}
-use Rattle.netlist.proofs.Topological.{Begins, begins_first, Next, Next-from_is_next}
+use Rattle.circuits.proofs.Gates.{IsGate-from_input}
+use Rattle.circuits.proofs.Members.{Contains-from_among, among-from_Contains, Contains-head, Contains-cases, find-Some, find-None, Contains-gate_nets, IsGate-from_gate_nets, length-gates}
+use Rattle.circuits.proofs.Topological.{Begins, begins_first, Next, Next-from_is_next}
 use Rattle.netlist.proofs.Waits.{fanin-past}
-use Rattle.netlist.specs.Circuit.{Circuit, IsGate, input_count, net_count, gate_nets, fanin}
-use Rattle.netlist.specs.Order.{IsInput, is_among, is_ready, is_next, with_next, first_listed, topological}
+use Rattle.circuits.specs.Circuit.{Circuit, IsGate, input_count, net_count, gate_nets, fanin}
+use Rattle.circuits.specs.Order.{IsInput, is_among, is_ready, is_next, with_next, first_listed, topological}
 use Rattle.netlist.specs.Waiting.{is_gate, open_inputs, count_of}
 
 -- nothing is open exactly where all are ready

@@ -9,14 +9,14 @@ use Rattle.std.proofs.lemmas.List.Elements.{All-push}
 use Rattle.std.proofs.lemmas.List.Folds.{list_any-append}
 use Rattle.netlist.proofs.Sources.{is_some-found, FindsNames-input, FindsNames-gate, bytes_eq-flips}
 use Rattle.netlist.specs.Draft.{Draft, GateLine, OutputLine, is_defined, is_output, is_long, output_line, with_input, with_gate, input_is_too_large, gate_is_too_large, net_fault, input_fault, gate_fault, next_call, gate_line}
-use Rattle.netlist.specs.Limits.{AcceptsArity, IsShort, most_inputs, most_gates, most_fanin, longest_name}
+use Rattle.circuits.specs.Limits.{AcceptsArity, IsShort, most_inputs, most_gates, most_fanin, longest_name}
 use Rattle.netlist.specs.Maker.{IsKept, IsSizedLine, drafted, gate_kept}
 use Rattle.netlist.specs.declared.draft.DraftGate.{DraftGate}
 use Rattle.netlist.specs.declared.draft.DraftOutput.{DraftOutput}
 use Rattle.std.specs.declared.alloc.Global.{Global}
 use Rattle.netlist.specs.Source.{FindsNames, FindsOneMore}
 use Rattle.netlist.specs.declared.fault.NetFault.{NetFault}
-use Rattle.netlist.specs.declared.gate_word.GateWord.{GateWord}
+use Rattle.circuits.specs.declared.gate_word.GateWord.{GateWord}
 use Rattle.netlist.specs.declared.source.Source.{Source}
 use Rattle.netlist.specs.declared.source.Source.TheVariants.{Input, Gate}
 

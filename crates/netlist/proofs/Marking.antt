@@ -3,10 +3,10 @@ use Rattle.std.specs.Prelude.{◌≡◌, ℕ, ◌<◌, ◌⊎◌, Bool, true, fa
 use Rattle.std.proofs.Common.{sym, ◌∙◌, ap, subst, inl, inr, ⊎_elim}
 use Rattle.std.proofs.lemmas.Bool.{cases_Bool, both_ways, false≢true, or_cases, or_left, or_right, and_from, and_parts}
 use Rattle.std.proofs.lemmas.List.Elements.{Contains-push, Contains-get_or}
-use Rattle.netlist.proofs.Members.{Contains-from_among, among-from_Contains, among_push, among-append_left}
+use Rattle.circuits.proofs.Members.{Contains-from_among, among-from_Contains, among_push, among-append_left}
 use Rattle.netlist.specs.Leads.{Leads, at_once, by_way, IsClosed}
-use Rattle.netlist.specs.Order.{is_among}
-use Rattle.netlist.specs.Valuation.{bit_of}
+use Rattle.circuits.specs.Order.{is_among}
+use Rattle.circuits.specs.Valuation.{bit_of}
 
 pub leads_on : {next : ℕ → List ℕ} {net via to : ℕ} → Leads next net via → Contains (next via) to → Leads next net to
 leads_on (at_once first) last = by_way first (at_once last)

@@ -3,16 +3,16 @@ use Rattle.std.specs.Prelude.{◌≡◌, ℕ, get_or, ◌<◌, Bool, true, false
 use Rattle.std.proofs.Common.{sym, ◌∙◌, subst, inl, inr, ⊎_elim}
 use Rattle.std.proofs.lemmas.Bool.{cases_Bool, both_ways, false_from_ne_true}
 use Rattle.std.proofs.lemmas.List.Elements.{Contains-get_or}
-use Rattle.netlist.proofs.Cones.{is_in_cone-reached}
-use Rattle.netlist.proofs.Descent.{reaches_on}
+use Rattle.circuits.proofs.Cones.{is_in_cone-reached}
+use Rattle.circuits.proofs.Descent.{reaches_on}
 use Rattle.netlist.proofs.Marking.{Walk, walk_begins, marked_along}
-use Rattle.netlist.proofs.Members.{among-from_Contains}
-use Rattle.netlist.proofs.Topological.{begins_first}
-use Rattle.netlist.specs.Circuit.{Circuit, IsGate, net_count, fanin}
-use Rattle.netlist.specs.Cone.{IsReachedFrom, is_in_cone}
+use Rattle.circuits.proofs.Members.{among-from_Contains}
+use Rattle.circuits.proofs.Topological.{begins_first}
+use Rattle.circuits.specs.Circuit.{Circuit, IsGate, net_count, fanin}
+use Rattle.circuits.specs.Cone.{IsReachedFrom, is_in_cone}
 use Rattle.netlist.specs.Leads.{Leads, at_once, by_way}
-use Rattle.netlist.specs.Order.{IsInput, Reaches, step, steps, is_among, topological}
-use Rattle.netlist.specs.Valuation.{bit_of}
+use Rattle.circuits.specs.Order.{IsInput, Reaches, step, steps, is_among, topological}
+use Rattle.circuits.specs.Valuation.{bit_of}
 
 inputs_lead : {c : Circuit} {net to : ℕ} → Reaches c net to → Leads (fanin c) net to
 inputs_lead (step reads) = at_once reads

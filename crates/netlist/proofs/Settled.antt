@@ -2,21 +2,17 @@
 use Rattle.std.specs.Prelude.{◌≡◌, ◌≢◌, ℕ, suc, ◌+◌, ◌-◌, ◌<◌, ◌≤◌, Bool, false, List, [], ◌∷◌, length, map, Contains, slice_get, get_or, Some, nat_eq, slice_set, refl}
 use Rattle.std.proofs.Common.{sym, ◌∙◌, ap, subst, ⊎_elim, arith}
 use Rattle.std.proofs.lemmas.Bool.{cases_lt, both_ways, eq-eqb}
-use Rattle.std.proofs.lemmas.List.{get_or-set_same, get_or-set_other, length-set, length-take, get_or-take}
+use Rattle.std.proofs.lemmas.List.{get_or_default, get_or-set_same, get_or-set_other, length-set, length-take, get_or-take}
 use Rattle.std.proofs.lemmas.Map.Keys.{apart_from_distinct}
-use Rattle.std.proofs.lemmas.Option.{slice_get_within, slice_get-get_or, get_or_from_slice_get}
-use Rattle.netlist.proofs.Gates.{Stands-from_gate_of, fanin-of_gate, gate_of-at}
-use Rattle.netlist.proofs.Topological.{topological-complete}
+use Rattle.std.proofs.lemmas.Option.{slice_get-get_or}
+use Rattle.circuits.proofs.Gates.{Stands-from_gate_of, fanin-of_gate}
+use Rattle.circuits.proofs.Topological.{topological-complete}
 use Rattle.netlist.proofs.Reach.{topological-is_gate}
-use Rattle.netlist.proofs.Waits.{get_or-any}
-use Rattle.std.proofs.lemmas.List.Elements.{All-get_or, Contains-get_or}
-use Rattle.netlist.specs.Limits.{IsSizedGate}
-use Rattle.netlist.specs.Nets.{IsSound}
-use Rattle.netlist.proofs.Members.{Contains-head}
-use Rattle.netlist.specs.Circuit.{Circuit, Gate, IsGate, input_count, net_count, gate_of}
-use Rattle.netlist.specs.Order.{IsInput, IsAccepted, IsTopologicalOrder, topological}
-use Rattle.netlist.specs.Truth.{truth}
-use Rattle.netlist.specs.Valuation.{bit_of, gate_value}
+use Rattle.circuits.proofs.Members.{Contains-head}
+use Rattle.circuits.specs.Circuit.{Circuit, Gate, IsGate, input_count, net_count, gate_of}
+use Rattle.circuits.specs.Order.{IsInput, IsAccepted, IsTopologicalOrder, topological}
+use Rattle.circuits.specs.Truth.{truth}
+use Rattle.circuits.specs.Valuation.{bit_of, gate_value}
 
 -- what is settled once the first places of the order have come
 pub record SettledTo (c : Circuit) (order : List ℕ) (before values : List Bool) (places : ℕ) : Type 0 where
@@ -48,7 +44,7 @@ module _ (c : Circuit) (accepted : IsAccepted c) (order : List ℕ) (is : order 
       let there : get_or order has.0 x ≡ x = sym (get_or-take p order has.0 x small.0) ∙ has.2 in
       let low' : has.0 < k = omega (arith, small.0, before) in
       both_ways (nat_eq (get_or order has.0 x) (get_or order k x)) (apart_from_distinct nat_eq order has.0 k x complete.no_net_twice low' low)
-      (eq-eqb (get_or order has.0 x) (get_or order k x) (there ∙ (e ∙ get_or-any order k 0 x low))))
+      (eq-eqb (get_or order has.0 x) (get_or order k x) (there ∙ (e ∙ get_or_default order k 0 x low))))
       (complete.after_inputs p (get_or order p 0) x (at p (omega (arith, before, low))) reads)
 
   module _ (before values : List Bool) (k : ℕ) (low : k < length order) (settled : SettledTo c order before values k) (gate : Gate) (here : gate_of c (get_or order k 0) ≡ Some gate) where
@@ -93,16 +89,5 @@ module _ (c : Circuit) (accepted : IsAccepted c) (order : List ℕ) (is : order 
   pub settled-gates : (before values : List Bool) (k : ℕ) → length order ≤ k → SettledTo c order before values k → (net : ℕ) (gate : Gate) → gate_of c net ≡ Some gate → bit_of values net ≡ gate_value gate values
   settled-gates before values k all settled net gate is_gate =
       let has : Contains order net = (complete.each net).1 (Stands-from_gate_of c net gate is_gate).is_gate in
-      let same : get_or order has.0 0 ≡ net = get_or-any order has.0 0 net has.1 ∙ has.2 in
+      let same : get_or order has.0 0 ≡ net = get_or_default order has.0 0 net has.1 ∙ has.2 in
       ap (bit_of values) (sym same) ∙ settled.gates has.0 gate (omega (arith, has.1, all)) has.1 (ap (gate_of c) same ∙ is_gate)
-
--- a gate of a sound netlist keeps the limits, and reads nets
-pub gate-sized : (c : Circuit) → IsSound c → (net : ℕ) (gate : Gate) → gate_of c net ≡ Some gate → IsSizedGate gate
-gate-sized c sound net gate is =
-    let gate_net : IsGate c net = (Stands-from_gate_of c net gate is).is_gate in
-    let at_place : slice_get c.gates (net - input_count c) ≡ Some gate = sym (gate_of-at c net gate_net.0) ∙ is in
-    let within : net - input_count c < length c.gates = slice_get_within c.gates (net - input_count c) gate at_place in
-    subst IsSizedGate (get_or_from_slice_get c.gates (net - input_count c) gate gate at_place) (All-get_or IsSizedGate c.gates (net - input_count c) gate within sound.limits.each_gate)
-
-pub gate-reads_nets : (c : Circuit) → IsSound c → (net : ℕ) (gate : Gate) → gate_of c net ≡ Some gate → (k d : ℕ) → k < length gate.inputs → get_or gate.inputs k d < net_count c
-gate-reads_nets c sound net gate is k d low = sound.inputs net (get_or gate.inputs k d) (subst (λ xs. Contains xs (get_or gate.inputs k d)) (sym (fanin-of_gate c net gate is)) (Contains-get_or gate.inputs k d low))

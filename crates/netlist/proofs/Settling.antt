@@ -6,14 +6,14 @@ use Rattle.std.proofs.Common.{sym, ◌∙◌, ap, subst, inl, inr, ⊎_elim, ari
 use Rattle.std.proofs.lemmas.Bool.{cases_Bool, both_ways, false_from_ne_true}
 use Rattle.netlist.proofs.Circles.{last_of, comes_back, listed-reads, reaches_from_leads, leads_from_reaches, reaches_through}
 use Rattle.netlist.proofs.Cycles.{circle-from, on_cycle-from}
-use Rattle.netlist.proofs.Gates.{IsGate-from_input}
-use Rattle.netlist.proofs.Members.{among_push, among-append_left}
-use Rattle.netlist.specs.Circuit.{Circuit, IsGate, net_count}
+use Rattle.circuits.proofs.Gates.{IsGate-from_input}
+use Rattle.circuits.proofs.Members.{among_push, among-append_left}
+use Rattle.circuits.specs.Circuit.{Circuit, IsGate, net_count}
 use Rattle.netlist.specs.Finish.{is_on_cycle}
 use Rattle.netlist.specs.Leads.{Leads, IsClosed}
-use Rattle.netlist.specs.Order.{IsInput, Reaches, step, steps, is_among}
+use Rattle.circuits.specs.Order.{IsInput, Reaches, step, steps, is_among}
 use Rattle.netlist.specs.Postorder.{IsPostorder, ComesAfter}
-use Rattle.netlist.specs.Valuation.{bit_of}
+use Rattle.circuits.specs.Valuation.{bit_of}
 use Rattle.netlist.specs.Waiting.{CountsReaders, list_at}
 
 -- what reads a settled net is settled, the rest is in the order, and of each settled net it is known whether it is on a cycle

@@ -13,7 +13,7 @@ use Rattle.std.proofs.lemmas.List.Sums.{position_or_len_is}
 use Rattle.std.proofs.lemmas.List.Quantifiers.{position-Some}
 use Rattle.std.proofs.lemmas.Map.Keys.{apart_from_distinct}
 use Rattle.std.specs.Option.{option_map}
-use Rattle.netlist.specs.Names.{place_of}
+use Rattle.circuits.specs.Names.{place_of}
 use Rattle.netlist.specs.Source.{name_at, source_net, FindsNames, FindsOneMore}
 use Rattle.netlist.specs.declared.source.Source.{Source}
 use Rattle.netlist.specs.declared.source.Source.TheVariants.{Input, Gate}

@@ -17,7 +17,7 @@ use Rattle.std.proofs.Math.Seq.{take-append_seam}
 use Rattle.std.proofs.lemmas.List.Sums.{count_by_more_yes, count_by_more_no, sum_by-take-le, sum_by-append}
 use Rattle.std.proofs.lemmas.Map.Views.{tells_apart}
 use Rattle.std.proofs.lemmas.Map.Lookups.{exact_unsigned}
-use Rattle.netlist.specs.Circuit.{Circuit, net_count, input_count, fanin}
+use Rattle.circuits.specs.Circuit.{Circuit, net_count, input_count, fanin}
 use Rattle.netlist.specs.Waiting.{count_of, list_at, HasReader, CountsReaders}
 
 -- the order of numbers finds equal ones
@@ -234,10 +234,6 @@ pub zeros_at : (n i : ℕ) → get_or (replicate n false) i false ≡ false
 zeros_at zero i = refl
 zeros_at (suc n) zero = refl
 zeros_at (suc n) (suc i) = zeros_at n i
-
--- a place within a list needs no default
-pub get_or-any : {X : Type 0} (xs : List X) (i : ℕ) (d e : X) → i < length xs → get_or xs i d ≡ get_or xs i e
-get_or-any xs i d e low = sym (get_or_from_slice_get xs i (get_or xs i d) e (slice_get-get_or xs i d low))
 
 pub filter_more : (p : ℕ → Bool) (xs : List ℕ) (i : ℕ) → i < length xs → filter p (take (i + 1) xs) ≡ filter p (take i xs) ++ (if p (get_or xs i 0) then get_or xs i 0 ∷ [] else [])
 filter_more p xs i low = ap (filter p) (take_more xs i 0 low) ∙ filter-append p (take i xs) (get_or xs i 0 ∷ [])

@@ -3,11 +3,11 @@ use Rattle.std.specs.Prelude.{◌≡◌, ℕ, ◌+◌, ◌-◌, ◌^◌, min, Bo
 use Rattle.std.specs.List.{list_any}
 use Rattle.std.specs.Str.{bytes_eq}
 use Rattle.netlist.specs.Fault.{fault}
-use Rattle.netlist.specs.Limits.{most_inputs, most_gates, most_fanin, longest_name}
+use Rattle.circuits.specs.Limits.{most_inputs, most_gates, most_fanin, longest_name}
 use Rattle.netlist.specs.declared.fault.NetFault.{NetFault}
 use Rattle.netlist.specs.declared.fault.NetCause.TheVariants.{DuplicateNet, TooLarge}
-use Rattle.netlist.specs.declared.gate_word.GateWord.{GateWord}
-use Rattle.netlist.specs.declared.gate_word.GateWord.TheVariants.{And, Not}
+use Rattle.circuits.specs.declared.gate_word.GateWord.{GateWord}
+use Rattle.circuits.specs.declared.gate_word.GateWord.TheVariants.{And, Not}
 
 -- a gate: the number of the call that added it, its name, what it computes, and the names of its inputs
 pub record GateLine : Type 0 where

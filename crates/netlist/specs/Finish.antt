@@ -2,15 +2,15 @@
 use Rattle.std.specs.Prelude.{◌≡◌, ℕ, ◌-◌, min, Bool, not, List, [], ◌∷◌, ◌++◌, length, map, filter, Option, Some, None, unwrap_or, slice_get, codes, refl}
 use Rattle.std.specs.List.{list_any}
 use Rattle.std.specs.Option.{option_map, option_map_or, option_or}
-use Rattle.netlist.specs.Circuit.{Circuit, Gate, gate_nets, fanin}
-use Rattle.netlist.specs.Circuits.{late}
-use Rattle.netlist.specs.Cone.{is_in_cone}
+use Rattle.circuits.specs.Circuit.{Circuit, Gate, gate_nets, fanin}
+use Rattle.circuits.specs.Examples.{late}
+use Rattle.circuits.specs.Cone.{is_in_cone}
 use Rattle.netlist.specs.Draft.{Draft, GateLine, late_draft, draft_names, is_defined, nothing, with_input, with_gate, with_output}
 use Rattle.netlist.specs.Fault.{fault}
-use Rattle.netlist.specs.Names.{place_of}
+use Rattle.circuits.specs.Names.{place_of}
 use Rattle.netlist.specs.declared.fault.NetFault.{NetFault}
 use Rattle.netlist.specs.declared.fault.NetCause.TheVariants.{UndefinedNet, Cycle}
-use Rattle.netlist.specs.declared.gate_word.GateWord.TheVariants.{And}
+use Rattle.circuits.specs.declared.gate_word.GateWord.TheVariants.{And}
 
 -- the number of a name's net, and 0 where there is none
 abbrev pub number : Draft → List ℕ → ℕ

@@ -1,7 +1,7 @@
 -- A draft's names and calls, as they are looked up.
 use Rattle.std.specs.Prelude.{◌≡◌, ℕ, ◌-◌, ◌<◌, ◌^◌, min, slice_get, Bool, not, List, length, map, filter, Option, Some, None, is_some}
 use Rattle.std.specs.Option.{option_map_or}
-use Rattle.netlist.specs.Circuit.{Circuit, Gate, input_count, gate_nets}
+use Rattle.circuits.specs.Circuit.{Circuit, Gate, input_count, gate_nets}
 use Rattle.netlist.specs.Finish.{least, is_on_cycle}
 use Rattle.netlist.specs.Draft.{Draft, GateLine}
 use Rattle.netlist.specs.Source.{source_net}

@@ -1,7 +1,7 @@
 -- How a netlist keeps its circuit.
 use Rattle.std.specs.Prelude.{ℕ, List, map, String, string_bytes}
 use Rattle.std.specs.declared.alloc.Global.{Global}
-use Rattle.netlist.specs.Circuit.{Circuit, Gate}
+use Rattle.circuits.specs.Circuit.{Circuit, Gate}
 use Rattle.netlist.specs.declared.nets.NetGate.{NetGate}
 
 abbrev pub net_gate_kept : NetGate → Gate

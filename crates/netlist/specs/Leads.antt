@@ -1,9 +1,9 @@
 -- What lists of nets lead to.
 use Rattle.std.specs.Prelude.{◌≡◌, ℕ, ◌<◌, Bool, true, List, length, Contains, refl}
 use Rattle.std.proofs.Math.Dec.{lit<}
-use Rattle.netlist.specs.Circuit.{fanin}
-use Rattle.netlist.specs.Circuits.{late}
-use Rattle.netlist.specs.Valuation.{bit_of}
+use Rattle.circuits.specs.Circuit.{fanin}
+use Rattle.circuits.specs.Examples.{late}
+use Rattle.circuits.specs.Valuation.{bit_of}
 
 -- from a net to one of its list, and so on, by one step or more
 pub data Leads (next : ℕ → List ℕ) : ℕ → ℕ → Type 0 where

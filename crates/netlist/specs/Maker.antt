@@ -2,7 +2,7 @@
 use Rattle.std.specs.Prelude.{◌≡◌, ℕ, ◌≤◌, Bool, List, map, length, All, Option, String, string_bytes}
 use Rattle.std.specs.declared.alloc.Global.{Global}
 use Rattle.netlist.specs.Draft.{Draft, GateLine, OutputLine, is_output}
-use Rattle.netlist.specs.Limits.{AcceptsArity, most_inputs, most_gates, most_fanin, IsShort}
+use Rattle.circuits.specs.Limits.{AcceptsArity, most_inputs, most_gates, most_fanin, IsShort}
 use Rattle.netlist.specs.Source.{FindsNames}
 use Rattle.netlist.specs.declared.draft.DraftGate.{DraftGate}
 use Rattle.netlist.specs.declared.draft.DraftOutput.{DraftOutput}

@@ -1,8 +1,8 @@
 -- How a netlist keeps its order and its names.
 use Rattle.std.specs.Prelude.{◌≡◌, ℕ, List, map, Option}
-use Rattle.netlist.specs.Circuit.{Circuit}
-use Rattle.netlist.specs.Nets.{IsSound}
-use Rattle.netlist.specs.Order.{IsAccepted, topological}
+use Rattle.circuits.specs.Circuit.{Circuit}
+use Rattle.circuits.specs.Sound.{IsSound}
+use Rattle.circuits.specs.Order.{IsAccepted, topological}
 use Rattle.netlist.specs.Source.{FindsNames}
 use Rattle.netlist.specs.declared.source.Source.{Source}
 

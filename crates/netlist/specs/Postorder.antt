@@ -1,8 +1,8 @@
 -- The order in which a depth-first walk along gate inputs leaves the nets.
 use Rattle.std.specs.Prelude.{◌≡◌, ℕ, ◌+◌, ◌<◌, ◌≤◌, ◌⊎◌, Bool, true, false, List, [], ◌∷◌, ◌++◌, length, map, AllPairs, Contains, slice_index, if◌then◌else◌, refl}
-use Rattle.netlist.specs.Circuit.{Circuit, net_count, fanin}
-use Rattle.netlist.specs.Order.{IsInput, Reaches, is_among}
-use Rattle.netlist.specs.Valuation.{bit_of}
+use Rattle.circuits.specs.Circuit.{Circuit, net_count, fanin}
+use Rattle.circuits.specs.Order.{IsInput, Reaches, is_among}
+use Rattle.circuits.specs.Valuation.{bit_of}
 use Rattle.netlist.specs.Waiting.{count_of}
 use Rattle.netlist.specs.declared.postorder.Visit.{Visit}
 

@@ -3,9 +3,9 @@ use Rattle.std.specs.Prelude.{◌≡◌, ℕ, ◌+◌, ◌<◌, Bool, not, ◌&&
 use Rattle.std.specs.Option.{option_map_or}
 use Rattle.std.specs.declared.alloc.Global.{Global}
 use Rattle.std.specs.declared.vec.Vec.{Vec}
-use Rattle.netlist.specs.Circuit.{Circuit, input_count, net_count, fanin}
-use Rattle.netlist.specs.Circuits.{late}
-use Rattle.netlist.specs.Order.{is_ready}
+use Rattle.circuits.specs.Circuit.{Circuit, input_count, net_count, fanin}
+use Rattle.circuits.specs.Examples.{late}
+use Rattle.circuits.specs.Order.{is_ready}
 
 abbrev pub is_gate : Circuit → ℕ → Bool
 is_gate c net = nat_le (input_count c) net && nat_lt net (net_count c)

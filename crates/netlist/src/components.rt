@@ -1,10 +1,10 @@
 ghost use Rattle.std.specs.Prelude.{◌≡◌, ℕ, ◌<◌, ◌⊎◌, ◌↔◌, true, false, not, length, IfOk, OnOk};
-ghost use Rattle.netlist.specs.Circuit.{net_count};
+ghost use Rattle.circuits.specs.Circuit.{net_count};
 ghost use Rattle.netlist.specs.Finish.{is_on_cycle};
 ghost use Rattle.netlist.specs.Leads.{Leads, IsClosed};
-ghost use Rattle.netlist.specs.Order.{is_among};
+ghost use Rattle.circuits.specs.Order.{is_among};
 ghost use Rattle.netlist.specs.Postorder.{IsPostorder};
-ghost use Rattle.netlist.specs.Valuation.{bit_of};
+ghost use Rattle.circuits.specs.Valuation.{bit_of};
 ghost use Rattle.netlist.specs.Waiting.{CountsReaders, list_at};
 
 use crate::cone::mark_all;

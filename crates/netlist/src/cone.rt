@@ -1,8 +1,8 @@
 ghost use Rattle.std.specs.Prelude.{◌≡◌, ℕ, ◌<◌, ◌≤◌, ◌+◌, not, ◌&&◌, ◌||◌, length, All, IfOk, OnOk, count_by, filter};
-ghost use Rattle.netlist.specs.Circuit.{net_count, gate_nets};
-ghost use Rattle.netlist.specs.Cone.{is_in_cone, cone};
-ghost use Rattle.netlist.specs.Order.{is_among, topological};
-ghost use Rattle.netlist.specs.Valuation.{bit_of};
+ghost use Rattle.circuits.specs.Circuit.{net_count, gate_nets};
+ghost use Rattle.circuits.specs.Cone.{is_in_cone, cone};
+ghost use Rattle.circuits.specs.Order.{is_among, topological};
+ghost use Rattle.circuits.specs.Valuation.{bit_of};
 
 use crate::nets::Nets;
 use std::alloc::{AllocError, Global};

@@ -1,10 +1,10 @@
 ghost use Rattle.std.specs.Prelude.{◌≡◌, ℕ, ◌<◌, not, length, map, IfOk};
-ghost use Rattle.netlist.specs.Circuit.{net_count};
+ghost use Rattle.circuits.specs.Circuit.{net_count};
 ghost use Rattle.netlist.specs.Finish.{is_on_cycle};
 ghost use Rattle.netlist.specs.Finishing.{cycle_call};
 ghost use Rattle.netlist.specs.Maker.{gate_kept};
-ghost use Rattle.netlist.specs.Order.{topological};
-ghost use Rattle.netlist.specs.Valuation.{bit_of};
+ghost use Rattle.circuits.specs.Order.{topological};
+ghost use Rattle.circuits.specs.Valuation.{bit_of};
 
 use crate::components::off_cycles;
 use crate::draft::DraftGate;

@@ -1,4 +1,4 @@
-use crate::gate_word::GateWord;
+use circuits::GateWord;
 
 /// A gate by names.
 #[derive(Drop)]

@@ -7,7 +7,7 @@ ghost use Rattle.netlist.specs.Fault.{AnswersInMemory};
 ghost use Rattle.netlist.specs.Finishing.{is_unknown, earliest, number_in, numbered_in, circuit_in, cycle_call, HasSmallNets};
 ghost use Rattle.netlist.specs.Kept.{net_gate_kept};
 ghost use Rattle.netlist.specs.Maker.{gate_kept, output_kept, drafted};
-ghost use Rattle.netlist.specs.Nets.{IsSound};
+ghost use Rattle.circuits.specs.Sound.{IsSound};
 ghost use Rattle.netlist.specs.Source.{FindsNames};
 
 use crate::cycle::cycle_of;

@@ -6,16 +6,16 @@ ghost use Rattle.std.specs.Str.{bytes_eq};
 ghost use Rattle.netlist.specs.Draft.{nothing, counted, with_input, with_gate, with_output, input_fault, gate_fault, output_fault, is_long, net_fault, gate_line, output_line};
 ghost use Rattle.netlist.specs.Fault.{Answers, AnswersInMemory};
 ghost use Rattle.netlist.specs.Finish.{circuit_of, finish_fault, undefined_fault};
-ghost use Rattle.netlist.specs.Limits.{AcceptsArity, most_inputs, most_gates, most_fanin};
+ghost use Rattle.circuits.specs.Limits.{AcceptsArity, most_inputs, most_gates, most_fanin};
 ghost use Rattle.netlist.specs.Maker.{gate_kept, output_kept};
 ghost use Rattle.netlist.specs.Source.{FindsOneMore};
 
 use crate::draft::{DraftGate, DraftOutput};
 use crate::fault::{NetCause, NetError, NetFault};
 use crate::finish::{first_unknown, nets_of, without_cycle};
-use crate::gate_word::GateWord;
 use crate::netlist::Netlist;
 use crate::source::Source;
+use circuits::GateWord;
 use std::alloc::{AllocError, Global};
 use std::collections::{HashMap, HashSet};
 use std::marker::Model;

@@ -1,18 +1,18 @@
 ghost use Rattle.std.specs.Prelude.{◌≡◌, ℕ, ◌<◌, length, All, IfOk, OnOk, OnErr, Some};
 ghost use Rattle.std.specs.HashMap.{get_by_text};
-ghost use Rattle.netlist.specs.Circuit.{IsGate, input_count, net_count, gate_of, name_of};
-ghost use Rattle.netlist.specs.Cone.{cone, is_in_cone};
-ghost use Rattle.netlist.specs.Names.{net_of};
+ghost use Rattle.circuits.specs.Circuit.{IsGate, input_count, net_count, gate_of, name_of};
+ghost use Rattle.circuits.specs.Cone.{cone, is_in_cone};
+ghost use Rattle.circuits.specs.Names.{net_of};
 ghost use Rattle.netlist.specs.Netlist.{IsOrdered};
-ghost use Rattle.netlist.specs.Nets.{IsSound};
-ghost use Rattle.netlist.specs.Order.{IsAccepted, topological};
-ghost use Rattle.netlist.specs.Valuation.{bit_of, valuation};
+ghost use Rattle.circuits.specs.Sound.{IsSound};
+ghost use Rattle.circuits.specs.Order.{IsAccepted, topological};
+ghost use Rattle.circuits.specs.Valuation.{bit_of, valuation};
 
 use crate::cone::{cone_of, reached_from};
-use crate::gate_word::GateWord;
 use crate::nets::Nets;
 use crate::source::Source;
 use crate::values::values_of;
+use circuits::GateWord;
 use std::alloc::AllocError;
 use std::collections::HashMap;
 use std::marker::Model;
@@ -28,7 +28,7 @@ pub struct Netlist {
 
 impl Model for Netlist {
     ghost use Rattle.std.specs.HashMap.{get_by_text};
-    ghost use Rattle.netlist.specs.Circuit.{Circuit};
+    ghost use Rattle.circuits.specs.Circuit.{Circuit};
     ghost use Rattle.netlist.specs.Netlist.{IsOrdered};
 
     ghost Value = { Circuit };

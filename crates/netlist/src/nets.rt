@@ -1,8 +1,8 @@
 ghost use Rattle.std.specs.Prelude.{◌≡◌, ◌<◌, length, Some};
-ghost use Rattle.netlist.specs.Circuit.{IsGate, input_count, net_count, fanin, gate_of, name_of};
-ghost use Rattle.netlist.specs.Nets.{IsSound};
+ghost use Rattle.circuits.specs.Circuit.{IsGate, input_count, net_count, fanin, gate_of, name_of};
+ghost use Rattle.circuits.specs.Sound.{IsSound};
 
-use crate::gate_word::GateWord;
+use circuits::GateWord;
 use std::marker::Model;
 
 /// A gate by numbers.
@@ -22,9 +22,9 @@ pub(crate) struct Nets {
 }
 
 impl Model for Nets {
-    ghost use Rattle.netlist.specs.Circuit.{Circuit};
+    ghost use Rattle.circuits.specs.Circuit.{Circuit};
     ghost use Rattle.netlist.specs.Kept.{circuit_kept};
-    ghost use Rattle.netlist.specs.Nets.{IsSound};
+    ghost use Rattle.circuits.specs.Sound.{IsSound};
 
     ghost Value = { Circuit };
 

@@ -1,9 +1,9 @@
 ghost use Rattle.std.specs.Prelude.{◌≡◌, ◌==◌, ℕ, ◌+◌, ◌<◌, ◌≤◌, ◌&&◌, ◌||◌, [], length, All, IfOk, OnOk, nat_lt, nat_le, count_by, slice_index};
 ghost use Rattle.std.specs.BTreeSet.{contains};
 ghost use Rattle.std.specs.Ordering.{nat_cmp};
-ghost use Rattle.netlist.specs.Circuit.{net_count};
-ghost use Rattle.netlist.specs.Limits.{most_fanin};
-ghost use Rattle.netlist.specs.Order.{topological};
+ghost use Rattle.circuits.specs.Circuit.{net_count};
+ghost use Rattle.circuits.specs.Limits.{most_fanin};
+ghost use Rattle.circuits.specs.Order.{topological};
 ghost use Rattle.netlist.specs.Waiting.{CountsReaders, HasReader, is_gate, open_inputs, count_of, list_at};
 
 use crate::nets::Nets;

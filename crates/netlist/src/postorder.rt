@@ -1,9 +1,9 @@
 ghost use Rattle.std.specs.Prelude.{◌≡◌, ℕ, ◌<◌, true, [], ◌∷◌, ◌++◌, length, IfOk, OnOk, slice_set, if◌then◌else◌};
-ghost use Rattle.netlist.specs.Circuit.{net_count};
-ghost use Rattle.netlist.specs.Nets.{IsSound};
-ghost use Rattle.netlist.specs.Order.{is_among};
+ghost use Rattle.circuits.specs.Circuit.{net_count};
+ghost use Rattle.circuits.specs.Sound.{IsSound};
+ghost use Rattle.circuits.specs.Order.{is_among};
 ghost use Rattle.netlist.specs.Postorder.{IsPostorder, IsWalk};
-ghost use Rattle.netlist.specs.Valuation.{bit_of};
+ghost use Rattle.circuits.specs.Valuation.{bit_of};
 
 use crate::nets::Nets;
 use std::alloc::{AllocError, Global};

@@ -1,5 +1,5 @@
 ghost use Rattle.std.specs.Prelude.{◌<◌};
-ghost use Rattle.netlist.specs.Circuit.{net_count};
+ghost use Rattle.circuits.specs.Circuit.{net_count};
 
 use super::*;
 use std::alloc::AllocError;

@@ -1,13 +1,13 @@
 ghost use Rattle.std.specs.Prelude.{◌≡◌, ℕ, ◌<◌, ◌≤◌, length, map, All, IfOk, Some};
 ghost use Rattle.std.specs.List.{list_all, list_any};
-ghost use Rattle.netlist.specs.Circuit.{Gate, gate_of, input_count, net_count};
-ghost use Rattle.netlist.specs.Limits.{AcceptsArity};
-ghost use Rattle.netlist.specs.Order.{IsAccepted, topological};
-ghost use Rattle.netlist.specs.Truth.{truth, an_odd_number_is_1};
-ghost use Rattle.netlist.specs.Valuation.{bit_of, gate_value, valuation};
+ghost use Rattle.circuits.specs.Circuit.{Gate, gate_of, input_count, net_count};
+ghost use Rattle.circuits.specs.Limits.{AcceptsArity};
+ghost use Rattle.circuits.specs.Order.{IsAccepted, topological};
+ghost use Rattle.circuits.specs.Truth.{truth, an_odd_number_is_1};
+ghost use Rattle.circuits.specs.Valuation.{bit_of, gate_value, valuation};
 
-use crate::gate_word::GateWord;
 use crate::nets::Nets;
+use circuits::GateWord;
 use std::alloc::{AllocError, Global};
 use word_base::Assign;
 

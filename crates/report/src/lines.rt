@@ -1,7 +1,7 @@
 ghost use Rattle.std.specs.Prelude.{◌≡◌, ℕ, ◌<◌, ◌++◌, map, codes, length, All, IfOk, OnOk, string_bytes};
 ghost use Rattle.std.specs.Fmt.{signed_decimal};
 ghost use Rattle.checks.specs.Report.{assignment, digit};
-ghost use Rattle.netlist.specs.Circuit.{net_count, name_of};
+ghost use Rattle.circuits.specs.Circuit.{net_count, name_of};
 ghost use Rattle.report.specs.Lines.{brief, brief_line};
 ghost use Rattle.report.specs.Verdicts.{plain};
 

@@ -3,8 +3,8 @@ use Rattle.std.specs.Prelude.{◌≡◌, ℕ, ℤ, Bool, true, false, ◌&&◌, 
 use Rattle.std.specs.Result.{OkIff, IsErrAnd}
 use Rattle.std.proofs.Common.{refl, sym, ◌∙◌, ap, subst}
 use Rattle.std.proofs.lemmas.Result.{err_from_is_err_and}
-use Rattle.netlist.specs.Circuit.{Circuit, input_count}
-use Rattle.netlist.specs.Valuation.{valuation}
+use Rattle.circuits.specs.Circuit.{Circuit, input_count}
+use Rattle.circuits.specs.Valuation.{valuation}
 use Rattle.spec_lang.specs.Evaluated.{IsEvaluated}
 use Rattle.spec_lang.specs.Placed.{placed, net_values}
 use Rattle.spec_lang.specs.Specification.{Word, Check, Specification}

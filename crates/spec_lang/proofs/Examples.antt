@@ -2,7 +2,7 @@
 use Rattle.std.proofs.Common.{ℕ, ◌<◌, List, [], ◌∷◌, All, refl}
 use Rattle.std.proofs.Math.Dec.{lit<, lit≤}
 use Rattle.std.proofs.lemmas.List.Elements.{All-cons, All-nil}
-use Rattle.netlist.specs.Circuits.{half}
+use Rattle.circuits.specs.Examples.{half}
 use Rattle.spec_lang.proofs.Orders.{range_is_order}
 use Rattle.spec_lang.specs.Specification.{Word, half_adder, half_adder_check, single}
 use Rattle.spec_lang.specs.WellFormed.{IsSizedWord, NamesWords, IsWellFormed, IsOver}

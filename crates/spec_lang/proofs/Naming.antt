@@ -3,8 +3,8 @@ use Rattle.std.proofs.Common.{◌≡◌, refl, sym, ◌∙◌, ap, subst, ℕ, �
 use Rattle.std.specs.Prelude.{◌⊎◌, ◌==◌, Contains, filter, flat_map}
 use Rattle.std.proofs.lemmas.Bool.{eqb-true}
 use Rattle.std.proofs.lemmas.List.Elements.{Contains-append_left, Contains-append_right, Contains-append_cases, All-contains}
-use Rattle.netlist.proofs.Cones.{flat_map-from, flat_map-has}
-use Rattle.netlist.proofs.Members.{Contains-cases, Contains-cons, Contains-head, Contains-nil, Contains-from_among, among-from_Contains}
+use Rattle.circuits.proofs.Cones.{flat_map-from, flat_map-has}
+use Rattle.circuits.proofs.Members.{Contains-cases, Contains-cons, Contains-head, Contains-nil, Contains-from_among, among-from_Contains}
 use Rattle.spec_lang.specs.Named.{each_once, namings, words_named, words_of_check, nets_named}
 use Rattle.spec_lang.specs.Specification.{Check, Specification}
 use Rattle.spec_lang.specs.Value.{nets_of}

@@ -2,7 +2,7 @@
 use Rattle.std.proofs.Common.{◌≡◌, ℕ, ◌+◌, ◌*◌, ◌^◌, ◌≤◌, Bool, true, false, cond, List, [], ◌∷◌, length, ap, arith, add-one}
 use Rattle.std.proofs.Math.Nat.{two-pow-succ}
 use Rattle.std.specs.List.{fold, enumerate_from}
-use Rattle.netlist.specs.Valuation.{bit_of}
+use Rattle.circuits.specs.Valuation.{bit_of}
 use Rattle.spec_lang.specs.Value.{digit_of, word_value, WordValueIsBelow}
 
 bit_times-le : (x : ℕ) (b : Bool) → x * cond b 1 0 ≤ x

@@ -1,6 +1,6 @@
 -- What the evaluation of a check answers.
 use Rattle.std.specs.Prelude.{◌≡◌, ℕ, ℤ, pos, Bool, true, false, ◌&&◌, List, [], ◌∷◌, Result, Ok, Err, IsTrue, ⊤, codes, refl}
-use Rattle.netlist.specs.Circuits.{half}
+use Rattle.circuits.specs.Examples.{half}
 use Rattle.spec_lang.specs.declared.eval_error.EvalError.{EvalError}
 use Rattle.spec_lang.specs.declared.eval_error.EvalError.TheVariants.{Overflow, Memory}
 use Rattle.spec_lang.specs.Formula.{Formula, number, sum}

@@ -1,9 +1,9 @@
 -- The values of all nets, where the bits of the inputs come in the order of a specification.
 use Rattle.std.specs.Prelude.{◌≡◌, ℕ, ◌+◌, ◌==◌, Bool, true, false, List, [], ◌∷◌, map, if◌then◌else◌, refl}
 use Rattle.std.specs.List.{range_with_len}
-use Rattle.netlist.specs.Circuit.{Circuit, input_count}
-use Rattle.netlist.specs.Circuits.{half}
-use Rattle.netlist.specs.Valuation.{bit_of, valuation}
+use Rattle.circuits.specs.Circuit.{Circuit, input_count}
+use Rattle.circuits.specs.Examples.{half}
+use Rattle.circuits.specs.Valuation.{bit_of, valuation}
 use Rattle.spec_lang.specs.Specification.{Specification, half_adder}
 
 -- the first place of a number in a list, and the list's length where it has none

@@ -2,7 +2,7 @@
 use Rattle.std.specs.Prelude.{◌≡◌, ℕ, ◌*◌, ◌^◌, ◌<◌, ℤ, pos, ◌+ℤ◌, ◌-ℤ◌, ◌*ℤ◌, neg_ℤ, Bool, true, false, ◌&&◌, if◌then◌else◌, List, [], ◌∷◌, length, sum_by, slice_get, refl}
 use Rattle.std.specs.List.{enumerate_from}
 use Rattle.std.specs.Option.{option_map_or}
-use Rattle.netlist.specs.Valuation.{bit_of}
+use Rattle.circuits.specs.Valuation.{bit_of}
 use Rattle.word_base.specs.Range.{in_range}
 use Rattle.spec_lang.specs.Formula.{Formula, number, word, negative, sum, difference, product}
 use Rattle.spec_lang.specs.Specification.{Word, half_adder, half_adder_check}

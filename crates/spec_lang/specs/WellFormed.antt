@@ -2,7 +2,7 @@
 use Rattle.std.specs.Prelude.{◌≡◌, ℕ, ◌<◌, ◌≤◌, List, length, nat_eq, All, Contains, ◌↔◌, codes}
 use Rattle.std.specs.List.{IsDistinct}
 use Rattle.std.proofs.Math.Dec.{lit<, lit≤}
-use Rattle.netlist.specs.Circuit.{Circuit, input_count, net_count}
+use Rattle.circuits.specs.Circuit.{Circuit, input_count, net_count}
 use Rattle.spec_lang.specs.Formula.{Formula}
 use Rattle.spec_lang.specs.Named.{namings}
 use Rattle.spec_lang.specs.Specification.{Word, Check, Specification, single}

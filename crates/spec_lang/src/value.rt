@@ -1,6 +1,6 @@
 ghost use Rattle.std.specs.Prelude.{◌≡◌, ◌<◌, ◌≤◌, ◌^◌, length, pos, IsTrue, ◌&&◌};
 ghost use Rattle.std.specs.Result.{OkIff};
-ghost use Rattle.netlist.specs.Valuation.{bit_of};
+ghost use Rattle.circuits.specs.Valuation.{bit_of};
 ghost use Rattle.spec_lang.specs.Formula.{formula_of};
 ghost use Rattle.spec_lang.specs.Value.{nets_of, word_value, value, all_in_range};
 ghost use Rattle.spec_lang.specs.WellFormed.{most_nets_of_word};

@@ -2,8 +2,8 @@
 use Rattle.std.proofs.Common.{◌≡◌, sym, subst, ℕ, ◌≤◌, List, [], ◌∷◌, ◌++◌, Bool, true, length, drop}
 use Rattle.std.specs.Prelude.{Result, if◌then◌else◌}
 use Rattle.checks.specs.Work.{step_work, step_table, fold_work, fold_table, not_work, gate_work}
-use Rattle.netlist.specs.Polynomial.{step, is_negated}
-use Rattle.netlist.specs.declared.gate_word.GateWord.{GateWord}
+use Rattle.circuits.specs.Polynomial.{step, is_negated}
+use Rattle.circuits.specs.declared.gate_word.GateWord.{GateWord}
 use Rattle.word_base.specs.declared.decomp.Decomp.{Decomp}
 use Rattle.word_base.specs.declared.kind_name.KindName.TheVariants.{Hdd}
 use Rattle.tables.specs.Table.{Table}

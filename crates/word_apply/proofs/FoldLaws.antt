@@ -2,8 +2,8 @@
 use Rattle.std.proofs.Common.{◌≡◌, refl, sym, ◌∙◌, ap, subst, ℕ, zero, suc, ◌-◌, ◌<◌, ◌≤◌, ℤ, pos, List, [], ◌∷◌, length, get_or, take, drop, arith}
 use Rattle.std.specs.Prelude.{true, false}
 use Rattle.std.proofs.lemmas.List.{take_all}
-use Rattle.netlist.specs.Polynomial.{step, is_negated, negation}
-use Rattle.netlist.specs.declared.gate_word.GateWord.{GateWord}
+use Rattle.circuits.specs.Polynomial.{step, is_negated, negation}
+use Rattle.circuits.specs.declared.gate_word.GateWord.{GateWord}
 use Rattle.tables.specs.Pieces.{like}
 use Rattle.checks.specs.Work.{step_table, fold_table, gate_table}
 use Rattle.tables.specs.Table.{Table, entry, halves, IsOver, each, zip_with, minus}

@@ -1,6 +1,6 @@
 -- Operations entry by entry that are made of others.
 use Rattle.std.proofs.Common.{◌≡◌, refl, sym, subst, ℕ, zero, suc, ◌≤◌, ℤ, pos, ◌-ℤ◌, length, drop}
-use Rattle.netlist.specs.Polynomial.{negation}
+use Rattle.circuits.specs.Polynomial.{negation}
 use Rattle.tables.specs.Table.{Table, entry, halves, IsOver, each, zip_with, constant_table}
 use Rattle.tables.proofs.TableLaws.{both_halves}
 use Rattle.kind_laws.specs.declared.edge.Edge.{Edge}

@@ -2,7 +2,7 @@
 use Rattle.std.specs.Prelude.{◌≡◌, ℕ, ◌≤◌, ◌^◌, ℤ, pos, ◌+ℤ◌, ◌-ℤ◌, ◌*ℤ◌, List, [], ◌∷◌, ◌++◌, length, drop, fold, slice_index_or, Result, refl}
 use Rattle.std.specs.List.{AllByRecursion}
 use Rattle.checks.specs.Work.{fold_table, gate_table, multiples, sums_from, word_table}
-use Rattle.netlist.specs.declared.gate_word.GateWord.{GateWord}
+use Rattle.circuits.specs.declared.gate_word.GateWord.{GateWord}
 use Rattle.spec_lang.specs.Formula.{Formula, number, word, negative, sum, difference, product}
 use Rattle.tables.specs.Pieces.{Piece, pieces, add_work, sub_work, mul_work}
 use Rattle.tables.specs.Table.{Table, entry, halves, plus, minus, times, opposite, constant_table}

@@ -3,13 +3,13 @@ ghost use Rattle.checks.specs.Work.{step_work, fold_work, gate_work};
 ghost use Rattle.diagram.specs.Causes.{CausesOfBoth};
 ghost use Rattle.diagram.specs.Results.{IsOfBoth};
 ghost use Rattle.diagram.specs.View.{View, IsEdge, Keeps};
-ghost use Rattle.netlist.specs.Polynomial.{step, is_negated};
+ghost use Rattle.circuits.specs.Polynomial.{step, is_negated};
 ghost use Rattle.word_apply.specs.Applied.{AreEdges, CausesOfAll, CausesOfRest, IsFoldOf, IsGateOf};
 
 use crate::gates::{and, not, or, xor};
 use diagram::{Builder, Limit};
 use kind_laws::Edge;
-use netlist::GateWord;
+use circuits::GateWord;
 
 /// One step of a gate's fold, before the negation. NOT and BUFF take none.
 fn one_step(builder: &mut Builder, word: GateWord, a: &Edge, b: &Edge) -> Result<Edge, Limit>

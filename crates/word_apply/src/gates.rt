@@ -3,8 +3,8 @@ ghost use Rattle.checks.specs.Work.{not_work, or_work, xor_work};
 ghost use Rattle.diagram.specs.Causes.{CausesOfBoth, CausesOfEach};
 ghost use Rattle.diagram.specs.Results.{IsOfBoth, IsOfEach};
 ghost use Rattle.diagram.specs.View.{View, IsEdge, Keeps};
-ghost use Rattle.netlist.specs.Polynomial.{negation, step};
-ghost use Rattle.netlist.specs.declared.gate_word.GateWord.TheVariants.{And, Or, Xor};
+ghost use Rattle.circuits.specs.Polynomial.{negation, step};
+ghost use Rattle.circuits.specs.declared.gate_word.GateWord.TheVariants.{And, Or, Xor};
 ghost use Rattle.tables.specs.Pieces.{mul_work};
 
 use diagram::{Builder, Limit};

@@ -7,7 +7,7 @@ ghost use Rattle.word_apply.specs.Applied.{AreEdges};
 use super::*;
 use diagram::{Builder, Limit};
 use kind_laws::Edge;
-use netlist::GateWord;
+use circuits::GateWord;
 use spec_lang::Expr;
 use std::alloc::Global;
 use std::process::Abort;

@@ -1,9 +1,9 @@
 use Rattle.std.proofs.Common.{◌≡◌, ◌∙◌, sym, ap, subst, ℕ, ◌+◌, ◌<◌, List, Bool, length}
 use Rattle.std.specs.Prelude.{All, slice_get}
 use Rattle.std.proofs.lemmas.List.{length-replicate}
-use Rattle.netlist.specs.Circuit.{input_count, net_count}
-use Rattle.netlist.specs.Cone.{cone, is_in_cone}
-use Rattle.netlist.specs.Valuation.{bit_of}
+use Rattle.circuits.specs.Circuit.{input_count, net_count}
+use Rattle.circuits.specs.Cone.{cone, is_in_cone}
+use Rattle.circuits.specs.Valuation.{bit_of}
 use Rattle.spec_lang.specs.Named.{nets_named}
 use Rattle.word_apply.specs.Applied.{AreEdges}
 use Rattle.cone_builder.specs.Built.{AreBuilt, AreVariables, ComeAfter, NetsAreBuilt, is_marked, or_listed}

@@ -1,7 +1,7 @@
 use Rattle.std.proofs.Common.{◌≡◌, ◌∙◌, sym, ap, subst, length, List, arith}
 use Rattle.std.specs.Prelude.{slice_index_or}
 use Rattle.std.proofs.lemmas.List.{length-map}
-use Rattle.netlist.specs.Circuit.{Gate, name_of}
+use Rattle.circuits.specs.Circuit.{Gate, name_of}
 use Rattle.kind_laws.specs.declared.edge.Edge.{Edge}
 use Rattle.std.proofs.Common.{drop}
 use Rattle.std.proofs.lemmas.List.Elements.{Contains-get_or}

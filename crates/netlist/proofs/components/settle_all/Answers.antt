@@ -1,11 +1,11 @@
 use Rattle.std.proofs.Common.{◌≡◌, ◌∙◌, sym, ap, length, arith, false, replicate}
 use Rattle.std.proofs.lemmas.List.{length-replicate}
 use Rattle.std.proofs.lemmas.List.Elements.{Contains-push}
-use Rattle.netlist.proofs.Members.{among-from_Contains}
+use Rattle.circuits.proofs.Members.{among-from_Contains}
 use Rattle.netlist.proofs.Settling.{settling_begins, settling_more, lists_closed}
 use Rattle.netlist.proofs.Waits.{zeros_at, refilled}
-use Rattle.netlist.specs.Circuit.{net_count}
-use Rattle.netlist.specs.Valuation.{bit_of}
+use Rattle.circuits.specs.Circuit.{net_count}
+use Rattle.circuits.specs.Valuation.{bit_of}
 use Rattle.netlist.proofs.components.settle_all.Goals as goal
 
 pub loop-net-init : goal.loop-net-init

@@ -1,9 +1,10 @@
 use Rattle.std.proofs.Common.{◌≡◌, ◌<◌, ◌∙◌, ℕ, false, sym, ap, arith, slice_index, [], ◌∷◌, ◌++◌}
 use Rattle.std.proofs.lemmas.List.{append-nil}
 use Rattle.netlist.proofs.Reach.{topological-is_gate}
-use Rattle.netlist.proofs.Waits.{filter_more, get_or-any}
-use Rattle.netlist.specs.Circuit.{net_count}
-use Rattle.netlist.specs.Cone.{is_in_cone}
+use Rattle.std.proofs.lemmas.List.{get_or_default}
+use Rattle.netlist.proofs.Waits.{filter_more}
+use Rattle.circuits.specs.Circuit.{net_count}
+use Rattle.circuits.specs.Cone.{is_in_cone}
 use Rattle.netlist.proofs.cone.cone_of.Goals.{then-index+in_ok-push, else-index}
 use Rattle.netlist.proofs.cone.cone_of.Goals as goal
 
@@ -19,7 +20,7 @@ loop-net-preserved c =
     let is = topological-is_gate c.args.nets.now c.args.order.now c.loop-net.net-index c.requires.order c.loop-net-test.true in
     let low : net < net_count c.args.nets.now = is.1 in
     let mark : c.index.result.now ≡ is_in_cone c.args.nets.now c.args.from.now net =
-    c.index.ensures ∙ (get_or-any c.in_ok-marks.marks.items net c.index.result.now false (rw c.in_ok-marks.ensures.length low) ∙ c.in_ok-marks.ensures.marks net low)
+    c.index.ensures ∙ (get_or_default c.in_ok-marks.marks.items net c.index.result.now false (rw c.in_ok-marks.ensures.length low) ∙ c.in_ok-marks.ensures.marks net low)
     in
     let more = filter_more (is_in_cone c.args.nets.now c.args.from.now) c.args.order.now c.loop-net.net-index c.loop-net-test.true in
     elim c.if-index.branch [

@@ -1,5 +1,5 @@
 use Rattle.std.proofs.Common.{◌≡◌, take, filter}
-use Rattle.netlist.specs.Cone.{is_in_cone}
+use Rattle.circuits.specs.Cone.{is_in_cone}
 use Rattle.netlist.proofs.cone.cone_of.Given as goal
 
 abbrev pub invariant-loop-net : goal.invariant-loop-net

@@ -1,6 +1,6 @@
 use Rattle.std.proofs.Common.{◌≡◌, ℕ, ◌+◌, ◌<◌, not, ◌&&◌, ◌||◌, length, take, count_by}
-use Rattle.netlist.specs.Order.{is_among}
-use Rattle.netlist.specs.Valuation.{bit_of}
+use Rattle.circuits.specs.Order.{is_among}
+use Rattle.circuits.specs.Valuation.{bit_of}
 use Rattle.netlist.proofs.cone.mark_all.Given as goal
 
 abbrev pub invariant-loop-net : goal.invariant-loop-net

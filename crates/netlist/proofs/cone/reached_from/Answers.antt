@@ -4,10 +4,10 @@ use Rattle.std.proofs.lemmas.List.Elements.{All-contains, Contains-get_or}
 use Rattle.netlist.proofs.Marking.{walk_more}
 use Rattle.netlist.proofs.Reach.{cone_begins, reached_onwards, marks-cone}
 use Rattle.netlist.proofs.Waits.{refilled, zeros_at}
-use Rattle.netlist.specs.Circuit.{net_count, fanin}
-use Rattle.netlist.specs.Cone.{IsReachedFrom}
-use Rattle.netlist.specs.Order.{is_among}
-use Rattle.netlist.specs.Valuation.{bit_of}
+use Rattle.circuits.specs.Circuit.{net_count, fanin}
+use Rattle.circuits.specs.Cone.{IsReachedFrom}
+use Rattle.circuits.specs.Order.{is_among}
+use Rattle.circuits.specs.Valuation.{bit_of}
 use Rattle.netlist.proofs.cone.reached_from.Goals as goal
 
 pub loop-net-init : goal.loop-net-init

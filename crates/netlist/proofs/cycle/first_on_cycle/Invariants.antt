@@ -1,6 +1,6 @@
 use Rattle.std.proofs.Common.{◌≡◌, map, filter}
 use Rattle.std.specs.List.{range_with_len}
-use Rattle.netlist.specs.Circuit.{input_count}
+use Rattle.circuits.specs.Circuit.{input_count}
 use Rattle.netlist.specs.Finish.{least, is_on_cycle}
 use Rattle.netlist.specs.Finishing.{call_at}
 use Rattle.netlist.specs.Maker.{gate_kept}

@@ -5,7 +5,7 @@ use Rattle.netlist.specs.Draft.{OutputLine}
 use Rattle.netlist.specs.Finishing.{circuit_in, number_in, numbered_in}
 use Rattle.netlist.specs.Kept.{circuit_kept, net_gate_kept}
 use Rattle.netlist.specs.Maker.{drafted, gate_kept, output_kept}
-use Rattle.netlist.specs.Nets.{IsSound}
+use Rattle.circuits.specs.Sound.{IsSound}
 use Rattle.netlist.proofs.finish.nets_of.Goals as goal
 
 pub invariant_of-result : goal.invariant_of-result

@@ -1,7 +1,7 @@
 use Rattle.std.proofs.Common.{◌≡◌, ◌-◌, length, nat_cmp, slice_index}
 use Rattle.std.specs.BTreeSet.{contains}
 use Rattle.netlist.proofs.Kahn.{Kahn}
-use Rattle.netlist.specs.Circuit.{net_count}
+use Rattle.circuits.specs.Circuit.{net_count}
 use Rattle.netlist.proofs.order.order_of.Given as goal
 
 abbrev pub invariant-loop-net : goal.invariant-loop-net

@@ -1,7 +1,7 @@
 use Rattle.std.proofs.Common.{◌≡◌, ◌≤◌, ◌∙◌, sym, ap, subst, length, arith}
 use Rattle.std.proofs.lemmas.List.Elements.{Contains-get_or}
 use Rattle.netlist.proofs.Waits.{readers_more, readers_all, refilled}
-use Rattle.netlist.specs.Circuit.{net_count}
+use Rattle.circuits.specs.Circuit.{net_count}
 use Rattle.netlist.specs.Waiting.{HasReader}
 use Rattle.netlist.proofs.order.readers_of.Goals as goal
 

@@ -1,5 +1,5 @@
 use Rattle.std.proofs.Common.{◌≡◌, ℕ, ◌<◌, nat_lt, length, if◌then◌else◌}
-use Rattle.netlist.specs.Circuit.{net_count, fanin}
+use Rattle.circuits.specs.Circuit.{net_count, fanin}
 use Rattle.netlist.specs.Waiting.{count_of, list_at}
 use Rattle.netlist.proofs.order.readers_of.Given as goal
 

@@ -1,6 +1,6 @@
 use Rattle.std.proofs.Common.{◌≡◌, ◌==◌, ℕ, ◌&&◌, nat_le, nat_lt, nat_cmp, slice_index}
 use Rattle.std.specs.BTreeSet.{contains}
-use Rattle.netlist.specs.Circuit.{input_count}
+use Rattle.circuits.specs.Circuit.{input_count}
 use Rattle.netlist.proofs.order.ready_at_first.Given as goal
 
 abbrev pub invariant-loop-net : goal.invariant-loop-net

@@ -1,6 +1,6 @@
 use Rattle.std.proofs.Common.{◌≡◌, ℕ, ◌<◌, true, []}
 use Rattle.netlist.specs.Postorder.{IsWalk}
-use Rattle.netlist.specs.Valuation.{bit_of}
+use Rattle.circuits.specs.Valuation.{bit_of}
 use Rattle.netlist.proofs.postorder.postorder_of.Given as goal
 
 abbrev pub invariant-loop-net : goal.invariant-loop-net

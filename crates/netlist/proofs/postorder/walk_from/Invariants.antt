@@ -1,7 +1,7 @@
 use Rattle.std.proofs.Common.{◌≡◌, ℕ, true}
 use Rattle.netlist.proofs.DepthFirst.{work}
 use Rattle.netlist.specs.Postorder.{IsWalk}
-use Rattle.netlist.specs.Valuation.{bit_of}
+use Rattle.circuits.specs.Valuation.{bit_of}
 use Rattle.netlist.proofs.postorder.walk_from.Given as goal
 
 abbrev pub invariant-loop-visit : goal.invariant-loop-visit

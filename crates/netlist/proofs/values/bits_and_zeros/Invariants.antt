@@ -1,5 +1,5 @@
 use Rattle.std.proofs.Common.{◌≡◌, ℕ, ◌<◌, length}
-use Rattle.netlist.specs.Valuation.{bit_of}
+use Rattle.circuits.specs.Valuation.{bit_of}
 use Rattle.netlist.proofs.values.bits_and_zeros.Given as goal
 
 abbrev pub invariant-loop-place : goal.invariant-loop-place

@@ -1,7 +1,7 @@
 use Rattle.std.proofs.Common.{◌≡◌, ◌∙◌, sym, ap, length}
-use Rattle.netlist.proofs.Rounds.{valuation-only}
+use Rattle.circuits.proofs.Rounds.{valuation-only}
 use Rattle.netlist.proofs.Waits.{refilled}
-use Rattle.netlist.specs.Valuation.{bit_of}
+use Rattle.circuits.specs.Valuation.{bit_of}
 use Rattle.netlist.proofs.values.values_of.Goals as goal
 
 pub returns : goal.returns

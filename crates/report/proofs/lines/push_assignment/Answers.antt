@@ -1,7 +1,7 @@
 use Rattle.std.proofs.Common.{◌++◌, ◌<◌, [], length, map, sym, ap, ◌∙◌, subst, arith}
 use Rattle.std.proofs.lemmas.List.{get_or-map, length-map}
 use Rattle.std.specs.String.{string_bytes}
-use Rattle.netlist.specs.Circuit.{name_of}
+use Rattle.circuits.specs.Circuit.{name_of}
 use Rattle.report.proofs.Assignments.{text-more, assignment-all}
 use Rattle.report.proofs.lines.push_assignment.Goals as goal
 

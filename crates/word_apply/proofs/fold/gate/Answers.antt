@@ -1,5 +1,5 @@
 use Rattle.std.proofs.Common.{sym, ◌∙◌, ◌-◌, length, take, drop}
-use Rattle.netlist.specs.Polynomial.{negation}
+use Rattle.circuits.specs.Polynomial.{negation}
 use Rattle.diagram.specs.Results.{IsOfEach}
 use Rattle.diagram.proofs.SumLaws.{if_ok_map}
 use Rattle.diagram.proofs.CauseLaws.{came_up}

@@ -1,8 +1,8 @@
 use Rattle.std.proofs.Common.{refl, subst, sym, inl, inr}
 use Rattle.std.specs.Prelude.{IfOk}
-use Rattle.netlist.specs.Polynomial.{step}
-use Rattle.netlist.specs.declared.gate_word.GateWord.{GateWord}
-use Rattle.netlist.specs.declared.gate_word.GateWord.TheVariants.{Not, Buff}
+use Rattle.circuits.specs.Polynomial.{step}
+use Rattle.circuits.specs.declared.gate_word.GateWord.{GateWord}
+use Rattle.circuits.specs.declared.gate_word.GateWord.TheVariants.{Not, Buff}
 use Rattle.diagram.specs.Results.{IsOfBoth}
 use Rattle.diagram.specs.Causes.{CausesOfBoth}
 use Rattle.word_apply.proofs.CallLaws.{both_nothing}

@@ -5,13 +5,13 @@ use Rattle.std.specs.HashMap.{get_by_text}
 use Rattle.std.specs.HashSet.{contains_text}
 use Rattle.std.specs.Option.{option_map}
 use Rattle.netlist.proofs.Finished.{undefined_is, circuit_is, small_nets, sources-kept, circuit-sound, finish_fault-undefined, finish_fault-defined, undefined_fault-none}
-use Rattle.netlist.specs.Circuit.{Circuit, Gate}
+use Rattle.circuits.specs.Circuit.{Circuit, Gate}
 use Rattle.netlist.specs.Draft.{Draft}
 use Rattle.netlist.specs.Fault.{AnswersInMemory, fault}
 use Rattle.netlist.specs.Finish.{circuit_of, least, undefined_calls, undefined_fault, finish_fault, cycle_fault}
 use Rattle.netlist.specs.Finishing.{cycle_call, HasSmallNets}
 use Rattle.netlist.specs.Maker.{drafted, gate_kept}
-use Rattle.netlist.specs.Nets.{IsSound}
+use Rattle.circuits.specs.Sound.{IsSound}
 use Rattle.netlist.specs.Source.{FindsNames}
 use Rattle.netlist.specs.declared.fault.NetCause.TheVariants.{Cycle}
 use Rattle.netlist.specs.declared.source.Source.{Source}

@@ -2,8 +2,8 @@ use Rattle.std.proofs.Common.{◌≡◌, ◌∙◌, sym, ap, length, map, arith,
 use Rattle.std.proofs.lemmas.List.{length-map}
 use Rattle.std.specs.HashMap.{get_by_text}
 use Rattle.netlist.proofs.Sources.{place_of-found, found-within}
-use Rattle.netlist.specs.Circuit.{Circuit, Gate}
-use Rattle.netlist.specs.Names.{net_of}
+use Rattle.circuits.specs.Circuit.{Circuit, Gate}
+use Rattle.circuits.specs.Names.{net_of}
 use Rattle.netlist.specs.Source.{source_net}
 use Rattle.netlist.proofs.netlist.Netlist.find.Goals as goal
 

@@ -1,6 +1,6 @@
 use Rattle.std.proofs.Common.{◌<◌, ◌∙◌, subst, sym}
 use Rattle.netlist.proofs.Kept.{name_of-gate}
-use Rattle.netlist.specs.Circuit.{net_count}
+use Rattle.circuits.specs.Circuit.{net_count}
 use Rattle.netlist.proofs.nets.Nets.name.Goals as goal
 
 pub returns-else-net-inputs : goal.returns-else-net-inputs

@@ -1,0 +1,10 @@
+pub mod Accepted
+pub mod Cones
+pub mod Descent
+pub mod Examples
+pub mod Gates
+pub mod Members
+pub mod Polynomials
+pub mod Rounds
+pub mod Topological
+pub mod Walks

@@ -1,0 +1,11 @@
+pub mod Circuit
+pub mod Cone
+pub mod Examples
+pub mod Laws
+pub mod Limits
+pub mod Names
+pub mod Order
+pub mod Polynomial
+pub mod Sound
+pub mod Truth
+pub mod Valuation

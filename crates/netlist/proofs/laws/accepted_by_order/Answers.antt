@@ -1,5 +1,0 @@
-use Rattle.netlist.proofs.Accepted.{accepted-iff_full}
-use Rattle.netlist.proofs.laws.accepted_by_order.Goals as goal
-
-pub returns : goal.returns
-returns c = accepted-iff_full

@@ -1,5 +1,0 @@
-use Rattle.netlist.proofs.Cones.{is_in_cone-reached}
-use Rattle.netlist.proofs.laws.cone_is_reached.Goals as goal
-
-pub returns : goal.returns
-returns c = is_in_cone-reached
