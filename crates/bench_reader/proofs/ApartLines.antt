@@ -9,7 +9,8 @@ use Rattle.circuits.specs.declared.gate_word.GateWord.{GateWord}
 use Rattle.bench_reader.specs.declared.fault.BenchCause.{BenchCause}
 use Rattle.bench_reader.specs.declared.fault.BenchCause.TheVariants.{UnknownGate, BadArity, DuplicateNet, Sequential, TooLarge, NotAscii}
 use Rattle.bench_reader.specs.declared.fault.BenchFault.{BenchFault}
-use Rattle.bench_reader.specs.Faults.{fault, takes, form_fault, line_fault, first_cause, is_too_large, is_defined, is_above_127}
+use Rattle.circuits.specs.Limits.{takes}
+use Rattle.bench_reader.specs.Faults.{fault, form_fault, line_fault, first_cause, is_too_large, is_defined, is_above_127}
 use Rattle.bench_reader.specs.Forms.{Form, empty, input, output, gate, no_form, form_of}
 use Rattle.bench_reader.specs.Lines.{uncommented}
 use Rattle.bench_reader.specs.Reading.{first_line_fault}

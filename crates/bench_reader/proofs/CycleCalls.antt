@@ -4,7 +4,8 @@ use Rattle.std.specs.List.{range_with_len}
 use Rattle.std.specs.Option.{option_map_or}
 use Rattle.std.proofs.lemmas.List.{length_push}
 use Rattle.netlist.specs.Draft.{GateLine}
-use Rattle.bench_reader.specs.Later.{is_on_cycle, reaches_itself}
+use Rattle.circuits.specs.Cone.{reaches_itself}
+use Rattle.bench_reader.specs.Later.{is_on_cycle}
 use Rattle.bench_reader.specs.Statements.{Statement, says_input, says_output, says_gate, gate_name, nets, circuit}
 use Rattle.bench_reader.proofs.ApartNames.{AreNumbered}
 use Rattle.bench_reader.proofs.Drafts.{gate_lines}

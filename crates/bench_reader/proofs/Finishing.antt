@@ -13,7 +13,8 @@ use Rattle.netlist.specs.declared.fault.NetCause.{NetCause}
 use Rattle.netlist.specs.declared.fault.NetCause.TheVariants.{UndefinedNet, Cycle}
 use Rattle.bench_reader.specs.declared.fault.BenchFault.{BenchFault}
 use Rattle.bench_reader.specs.Faults.{fault}
-use Rattle.bench_reader.specs.Later.{line_of, names_undefined, is_on_cycle, reaches_itself, first_where, later_fault}
+use Rattle.circuits.specs.Cone.{reaches_itself}
+use Rattle.bench_reader.specs.Later.{line_of, names_undefined, is_on_cycle, first_where, later_fault}
 use Rattle.bench_reader.specs.Statements.{Statement, said, input_name, gate_name, nets, numbered, circuit}
 use Rattle.bench_reader.specs.Steps.{cause_of}
 use Rattle.bench_reader.proofs.ApartNames.{AreApart, numbered_apart}

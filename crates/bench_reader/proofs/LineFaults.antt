@@ -4,12 +4,14 @@ use Rattle.std.proofs.lemmas.List.{length-map}
 use Rattle.std.specs.List.{list_any}
 use Rattle.std.specs.Option.{option_or, option_map_or}
 use Rattle.std.specs.Str.{bytes_eq, str_eq_ignore_ascii_case}
-use Rattle.netlist.specs.Draft.{Draft, net_fault, next_call, gate_fault, output_fault, is_long}
-use Rattle.circuits.specs.Limits.{most_inputs, most_gates, most_fanin}
+use Rattle.netlist.specs.Draft.{Draft, net_fault, next_call, gate_fault, output_fault}
+use Rattle.circuits.specs.Limits.{is_long}
+use Rattle.circuits.specs.declared.limits.TheConstants.{MOST_INPUTS, MOST_GATES, MOST_FANIN}
 use Rattle.circuits.specs.declared.gate_word.GateWord.{GateWord}
 use Rattle.bench_reader.specs.declared.fault.BenchCause.{BenchCause}
 use Rattle.bench_reader.specs.declared.fault.BenchCause.TheVariants.{UnknownGate, BadArity, DuplicateNet, Sequential, TooLarge, NotAscii}
-use Rattle.bench_reader.specs.Faults.{takes, form_fault, line_fault, first_cause, is_too_large, is_duplicate, is_above_127}
+use Rattle.circuits.specs.Limits.{takes}
+use Rattle.bench_reader.specs.Faults.{form_fault, line_fault, first_cause, is_too_large, is_duplicate, is_above_127}
 use Rattle.bench_reader.specs.Forms.{Form, empty, input, output, gate, no_form, form_of}
 use Rattle.bench_reader.specs.Lines.{uncommented}
 use Rattle.bench_reader.specs.Statements.{Statement, says_gate, gate_name, nets, statement}
@@ -45,15 +47,15 @@ form_parts earlier no_form h = refl
 form_parts earlier (input net) h =
     let d = drafted earlier in
     two_causes (is_too_large earlier (input net)) (is_duplicate earlier (input net)) (next_call d)
-    ∙ ap (λ is. option_map (λ f. cause_of f.cause) (net_fault (next_call d) (is_long net || nat_le most_inputs (length is)) (list_any (bytes_eq net) (nets earlier)))) (sym (draft_of-inputs earlier))
-    ∙ ap (λ ns. option_map (λ f. cause_of f.cause) (net_fault (next_call d) (is_long net || nat_le most_inputs (length d.inputs)) (list_any (bytes_eq net) ns))) (sym (draft_of-names earlier h))
+    ∙ ap (λ is. option_map (λ f. cause_of f.cause) (net_fault (next_call d) (is_long net || nat_le MOST_INPUTS (length is)) (list_any (bytes_eq net) (nets earlier)))) (sym (draft_of-inputs earlier))
+    ∙ ap (λ ns. option_map (λ f. cause_of f.cause) (net_fault (next_call d) (is_long net || nat_le MOST_INPUTS (length d.inputs)) (list_any (bytes_eq net) ns))) (sym (draft_of-names earlier h))
 form_parts earlier (output net) h = output_causes (is_long net) (drafted earlier) net refl
 form_parts earlier (gate net word inputs) h =
     let d = drafted earlier in
     let gates : length (filter_map gate_name earlier) ≡ length d.gates = ap length (sym (gate_lines-names 1 earlier)) ∙ length-map (gate_lines 1 earlier) (λ line. line.name) ∙ ap length (sym (draft_of-gates earlier h)) in
     gate_causes (str_eq_ignore_ascii_case word (codes "DFF")) (gate_word word) net (length inputs) inputs (is_too_large earlier (gate net word inputs)) (is_duplicate earlier (gate net word inputs)) (next_call d) d
-    (ap (λ n. option_map (λ f. cause_of f.cause) (net_fault (next_call d) (is_long net || list_any is_long inputs || nat_lt most_fanin (length inputs) || nat_le most_gates n) (list_any (bytes_eq net) (nets earlier)))) gates
-    ∙ ap (λ ns. option_map (λ f. cause_of f.cause) (net_fault (next_call d) (is_long net || list_any is_long inputs || nat_lt most_fanin (length inputs) || nat_le most_gates (length d.gates)) (list_any (bytes_eq net) ns))) (sym (draft_of-names earlier h)))
+    (ap (λ n. option_map (λ f. cause_of f.cause) (net_fault (next_call d) (is_long net || list_any is_long inputs || nat_lt MOST_FANIN (length inputs) || nat_le MOST_GATES n) (list_any (bytes_eq net) (nets earlier)))) gates
+    ∙ ap (λ ns. option_map (λ f. cause_of f.cause) (net_fault (next_call d) (is_long net || list_any is_long inputs || nat_lt MOST_FANIN (length inputs) || nat_le MOST_GATES (length d.gates)) (list_any (bytes_eq net) ns))) (sym (draft_of-names earlier h)))
 
 above_parts : (v : Bool) (own later : Option BenchCause) → cond v (Some NotAscii) (option_or own later) ≡ option_or (cond v (Some NotAscii) own) later
 above_parts true own later = refl

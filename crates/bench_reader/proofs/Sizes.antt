@@ -3,31 +3,19 @@ use Rattle.std.proofs.Common.{◌≡◌, ℕ, Bool, true, false, not, cond, List
 use Rattle.std.specs.List.{list_any}
 use Rattle.std.specs.Option.{option_map_or}
 use Rattle.std.specs.Str.{str_eq_ignore_ascii_case}
-use Rattle.std.proofs.lemmas.Bool.{ltb-true, eqb-true}
-use Rattle.circuits.specs.Limits.{AcceptsArity}
+use Rattle.circuits.specs.Limits.{AcceptsArity, takes}
 use Rattle.circuits.specs.declared.gate_word.GateWord.{GateWord}
-use Rattle.circuits.specs.declared.gate_word.GateWord.TheVariants.{And, Nand, Or, Nor, Xor, Xnor, Not, Buff}
 use Rattle.bench_reader.specs.declared.fault.BenchCause.{BenchCause}
 use Rattle.bench_reader.specs.declared.fault.BenchCause.TheVariants.{UnknownGate, BadArity, Sequential, NotAscii}
-use Rattle.bench_reader.specs.Faults.{takes, first_cause, is_above_127}
+use Rattle.bench_reader.specs.Faults.{first_cause, is_above_127}
 use Rattle.bench_reader.specs.Forms.{Form, empty, input, output, gate, no_form, form_of}
 use Rattle.bench_reader.specs.Lines.{uncommented}
 use Rattle.bench_reader.specs.Statements.{Statement, says_input, says_output, says_gate, statement}
 use Rattle.bench_reader.specs.Steps.{own_form_fault, own_fault, IsSized}
 use Rattle.bench_reader.specs.Words.{gate_word}
 
-accepts : (word : GateWord) (n : ℕ) → takes word n ≡ true → AcceptsArity word n
-accepts And n e = ltb-true 0 n e
-accepts Nand n e = ltb-true 0 n e
-accepts Or n e = ltb-true 0 n e
-accepts Nor n e = ltb-true 0 n e
-accepts Xor n e = ltb-true 0 n e
-accepts Xnor n e = ltb-true 0 n e
-accepts Not n e = eqb-true n 1 e
-accepts Buff n e = eqb-true n 1 e
-
 taken : (word : GateWord) (n : ℕ) (t : Bool) → takes word n ≡ t → first_cause ((not t, BadArity) ∷ []) ≡ None → AcceptsArity word n
-taken word n true e h = accepts word n e
+taken word n true e h = e
 taken word n false e h = absurd cc
 
 gate_sized : (s : Bool) (o : Option GateWord) (net : List ℕ) (inputs : List (List ℕ)) (said : Statement)

@@ -1,12 +1,11 @@
 -- What is wrong with a line that comes after others.
-use Rattle.std.specs.Prelude.{◌≡◌, ℕ, ◌==◌, Bool, true, false, not, ◌||◌, List, [], ◌∷◌, ◌++◌, length, find, filter_map, replicate, nat_lt, nat_le, Option, Some, None, is_none, option_map, codes, bytes_eq, if◌then◌else◌, refl}
+use Rattle.std.specs.Prelude.{◌≡◌, ℕ, Bool, true, false, not, ◌||◌, List, [], ◌∷◌, ◌++◌, length, find, filter_map, replicate, nat_lt, nat_le, Option, Some, None, is_none, option_map, codes, bytes_eq, if◌then◌else◌, refl}
 use Rattle.std.specs.List.{list_any}
 use Rattle.std.specs.Option.{option_map_or}
 use Rattle.std.specs.Str.{str_eq_ignore_ascii_case}
-use Rattle.netlist.specs.Draft.{is_long}
-use Rattle.circuits.specs.Limits.{most_inputs, most_gates, most_fanin}
-use Rattle.circuits.specs.declared.gate_word.GateWord.{GateWord}
-use Rattle.circuits.specs.declared.gate_word.GateWord.TheVariants.{And, Not, Buff}
+use Rattle.circuits.specs.Limits.{is_long, takes}
+use Rattle.circuits.specs.declared.limits.TheConstants.{MOST_INPUTS, MOST_GATES, MOST_FANIN}
+use Rattle.circuits.specs.declared.gate_word.GateWord.TheVariants.{And}
 use Rattle.bench_reader.specs.declared.fault.BenchCause.{BenchCause}
 use Rattle.bench_reader.specs.declared.fault.BenchCause.TheVariants.{BadLine, UnknownGate, BadArity, DuplicateNet, Sequential, TooLarge, NotAscii}
 use Rattle.bench_reader.specs.declared.fault.BenchFault.{BenchFault}
@@ -27,25 +26,16 @@ abbrev pub has_unknown_word : Form → Bool
 has_unknown_word (gate net word inputs) = is_none (gate_word word)
 has_unknown_word _ = false
 
-abbrev pub takes_one : GateWord → Bool
-takes_one Not = true
-takes_one Buff = true
-takes_one _ = false
-
--- a gate with this word may have so many inputs, the limit apart
-abbrev pub takes : GateWord → ℕ → Bool
-takes word n = if takes_one word then n == 1 else nat_lt 0 n
-
 abbrev pub has_bad_arity : Form → Bool
 has_bad_arity (gate net word inputs) = option_map_or (λ w. not (takes w (length inputs))) (gate_word word) false
 has_bad_arity _ = false
 
 -- a name or the inputs of a gate above their limit, or an input or a gate more than there may be
 abbrev pub is_too_large : List Statement → Form → Bool
-is_too_large earlier (input net) = is_long net || nat_le most_inputs (length (filter_map input_name earlier))
+is_too_large earlier (input net) = is_long net || nat_le MOST_INPUTS (length (filter_map input_name earlier))
 is_too_large earlier (output net) = is_long net
 is_too_large earlier (gate net word inputs) =
-    is_long net || list_any is_long inputs || nat_lt most_fanin (length inputs) || nat_le most_gates (length (filter_map gate_name earlier))
+    is_long net || list_any is_long inputs || nat_lt MOST_FANIN (length inputs) || nat_le MOST_GATES (length (filter_map gate_name earlier))
 is_too_large earlier _ = false
 
 abbrev pub is_defined : List Statement → List ℕ → Bool

@@ -2,9 +2,8 @@
 use Rattle.std.specs.Prelude.{◌≡◌, ℕ, ◌+◌, ◌-◌, Bool, true, false, not, List, [], ◌∷◌, position, slice_index, Option, option_map, is_some, codes, if◌then◌else◌, refl}
 use Rattle.std.specs.List.{list_any}
 use Rattle.std.specs.Option.{option_or}
-use Rattle.circuits.specs.Circuit.{Circuit, fanin}
-use Rattle.circuits.specs.Examples.{half, looped}
-use Rattle.circuits.specs.Cone.{is_in_cone}
+use Rattle.circuits.specs.Circuit.{Circuit}
+use Rattle.circuits.specs.Cone.{reaches_itself}
 use Rattle.bench_reader.specs.declared.fault.BenchCause.{BenchCause}
 use Rattle.bench_reader.specs.declared.fault.BenchCause.TheVariants.{UndefinedNet, Cycle}
 use Rattle.bench_reader.specs.declared.fault.BenchFault.{BenchFault}
@@ -26,9 +25,6 @@ names_undefined all (says_input net) = false
 names_undefined all (says_output net) = not (is_defined all net)
 names_undefined all (says_gate net word inputs) = list_any (λ name. not (is_defined all name)) inputs
 
-abbrev pub reaches_itself : Circuit → ℕ → Bool
-reaches_itself c net = is_in_cone c (fanin c net) net
-
 abbrev pub is_on_cycle : List Statement → Statement → Bool
 is_on_cycle all (says_input net) = false
 is_on_cycle all (says_output net) = false
@@ -49,9 +45,3 @@ statement_lines = refl
 
 second_statement : line_of (codes "INPUT(a)" ∷ [] ∷ codes "z = NOT(a)" ∷ []) 2 ≡ 3
 second_statement = refl
-
-half-has_no_cycle : reaches_itself half 2 ≡ false
-half-has_no_cycle = refl
-
-looped-has_one : reaches_itself looped 1 ≡ true
-looped-has_one = refl

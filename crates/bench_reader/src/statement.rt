@@ -1,5 +1,5 @@
 ghost use Rattle.std.specs.Prelude.{◌≡◌, length};
-ghost use Rattle.bench_reader.specs.Faults.{takes};
+ghost use Rattle.circuits.specs.Limits.{takes};
 ghost use Rattle.bench_reader.specs.Forms.{gate};
 ghost use Rattle.bench_reader.specs.Steps.{Says, SaysLine};
 ghost use Rattle.bench_reader.specs.Views.{seen_names};

@@ -2,12 +2,15 @@
 use Rattle.std.specs.Prelude.{◌≡◌, ℕ, ◌-◌, ◌<◌, ◌≤◌, ◌⊎◌, Bool, true, false, List, [], ◌∷◌, length, map, nat_lt, slice_get, get_or, Option, Some, None, Contains, refl}
 use Rattle.std.specs.Option.{option_map_or}
 use Rattle.std.proofs.Common.{sym, ◌∙◌, ap, subst, inl, inr, ⊎_elim, arith}
-use Rattle.std.proofs.lemmas.Bool.{cases_lt, le-ltb, lt-ltb, cond-true, cond-false}
+use Rattle.std.proofs.lemmas.Bool.{cases_lt, le-ltb, lt-ltb, ltb-true, eqb-true, cond-true, cond-false}
 use Rattle.std.proofs.lemmas.Option.{slice_get_cases, slice_get_within, get_or_from_slice_get}
 use Rattle.std.proofs.lemmas.List.Elements.{All-get_or, Contains-get_or}
 use Rattle.circuits.proofs.Members.{Contains-cons, Contains-head, Contains-nil}
 use Rattle.circuits.specs.Circuit.{Circuit, Gate, IsGate, input_count, net_count, gate_of, fanin}
-use Rattle.circuits.specs.Limits.{IsSizedGate, IsWithinLimits, most_fanin}
+use Rattle.circuits.specs.declared.gate_word.GateWord.{GateWord}
+use Rattle.circuits.specs.declared.gate_word.GateWord.TheVariants.{And, Nand, Or, Nor, Xor, Xnor, Not, Buff}
+use Rattle.circuits.specs.Limits.{AcceptsArity, IsSizedGate, IsWithinLimits}
+use Rattle.circuits.specs.declared.limits.TheConstants.{MOST_FANIN}
 use Rattle.circuits.specs.Sound.{IsSound}
 
 -- past the inputs, the gates stand in their order
@@ -70,16 +73,16 @@ IsGate-from_input c net input reads = go (gate_of c net) refl
     go (Some gate) e = let stands : Stands c net gate = Stands-from_gate_of c net gate e in stands.is_gate
 
 -- a gate has not too many inputs
-pub fanin-few : (c : Circuit) → IsWithinLimits c → (net : ℕ) → length (fanin c net) ≤ most_fanin
+pub fanin-few : (c : Circuit) → IsWithinLimits c → (net : ℕ) → length (fanin c net) ≤ MOST_FANIN
 fanin-few c limits net = go (gate_of c net) refl
   where
-    go : (o : Option Gate) → gate_of c net ≡ o → length (fanin c net) ≤ most_fanin
+    go : (o : Option Gate) → gate_of c net ≡ o → length (fanin c net) ≤ MOST_FANIN
     go None e = let none : length (fanin c net) ≡ 0 = ap (λ found. length (option_map_or (λ (g : Gate). g.inputs) found [])) e in omega (arith, none)
     go (Some gate) e =
         let stands : Stands c net gate = Stands-from_gate_of c net gate e in
         let low : net - input_count c < length c.gates = omega (arith, stands.is_gate.0, stands.is_gate.1) in
         let sized : IsSizedGate gate = subst IsSizedGate (get_or_from_slice_get c.gates (net - input_count c) gate gate stands.at) (limits.each_gate (net - input_count c) gate low) in
-        subst (λ xs. length xs ≤ most_fanin) (sym (fanin-of_gate c net gate e)) sized.fanin
+        subst (λ xs. length xs ≤ MOST_FANIN) (sym (fanin-of_gate c net gate e)) sized.fanin
 
 -- a gate of a sound circuit keeps the limits, and reads nets
 pub gate-sized : (c : Circuit) → IsSound c → (net : ℕ) (gate : Gate) → gate_of c net ≡ Some gate → IsSizedGate gate
@@ -91,3 +94,14 @@ gate-sized c sound net gate is =
 
 pub gate-reads_nets : (c : Circuit) → IsSound c → (net : ℕ) (gate : Gate) → gate_of c net ≡ Some gate → (k d : ℕ) → k < length gate.inputs → get_or gate.inputs k d < net_count c
 gate-reads_nets c sound net gate is k d low = sound.inputs net (get_or gate.inputs k d) (subst (λ xs. Contains xs (get_or gate.inputs k d)) (sym (fanin-of_gate c net gate is)) (Contains-get_or gate.inputs k d low))
+
+-- each word takes an input or more
+pub some_inputs : (word : GateWord) (n : ℕ) → AcceptsArity word n → 0 < n
+some_inputs And n h = ltb-true 0 n h
+some_inputs Nand n h = ltb-true 0 n h
+some_inputs Or n h = ltb-true 0 n h
+some_inputs Nor n h = ltb-true 0 n h
+some_inputs Xor n h = ltb-true 0 n h
+some_inputs Xnor n h = ltb-true 0 n h
+some_inputs Not n h = let one : n ≡ 1 = eqb-true n 1 h in omega arith
+some_inputs Buff n h = let one : n ≡ 1 = eqb-true n 1 h in omega arith

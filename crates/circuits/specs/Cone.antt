@@ -1,7 +1,7 @@
 -- What some nets are computed from.
 use Rattle.std.specs.Prelude.{◌≡◌, ℕ, zero, suc, Bool, true, false, List, [], ◌∷◌, ◌++◌, length, fold, filter, flat_map, Contains, ◌⊎◌, if◌then◌else◌, refl}
 use Rattle.circuits.specs.Circuit.{Circuit, fanin}
-use Rattle.circuits.specs.Examples.{half, c17}
+use Rattle.circuits.specs.Examples.{half, c17, looped}
 use Rattle.circuits.specs.Order.{Reaches, is_among, topological}
 
 -- among the nets, or reached from one of them
@@ -28,6 +28,10 @@ is_in_cone c nets net = is_among (reached c nets (length c.gates)) net
 abbrev pub cone : Circuit → List ℕ → List ℕ
 cone c nets = filter (is_in_cone c nets) (topological c)
 
+-- the gate of the net reaches itself along gate inputs
+abbrev pub reaches_itself : Circuit → ℕ → Bool
+reaches_itself c net = is_in_cone c (fanin c net) net
+
 half-cone : cone half (3 ∷ []) ≡ 3 ∷ []
 half-cone = refl
 
@@ -40,3 +44,9 @@ half-not_in_cone = refl
 -- net 10 is the output 23
 c17-cone : cone c17 (10 ∷ []) ≡ 6 ∷ 7 ∷ 8 ∷ 10 ∷ []
 c17-cone = refl
+
+looped-on_cycle : reaches_itself looped 1 ≡ true
+looped-on_cycle = refl
+
+c17-off_cycles : reaches_itself c17 7 ≡ false
+c17-off_cycles = refl

@@ -2,6 +2,7 @@
 //! data. Nets are numbered with the inputs first, in order, and then the gates, in order.
 //!
 //! - `GateWord` is what a gate computes;
+//! - `MOST_INPUTS`, `MOST_GATES`, `MOST_FANIN` and `LONGEST_NAME` are the limits of a netlist;
 //! - `laws`: each function there states a law of the definitions in `specs/`, which it proves.
 //!
 //! In `specs/`: `Circuit` (the data), `Names`, `Limits` and `Sound` (what holds of it), `Truth` and `Valuation`
@@ -11,9 +12,11 @@
 
 mod gate_word;
 mod laws;
+mod limits;
 
 pub use gate_word::GateWord;
 pub use laws::{
     accepted_by_order, cone_is_complete, cone_is_reached, one_valuation, polynomials_are_truth,
     topological_is_complete,
 };
+pub use limits::{LONGEST_NAME, MOST_FANIN, MOST_GATES, MOST_INPUTS};

@@ -3,12 +3,11 @@ use Rattle.std.proofs.Common.{◌≡◌, refl, sym, ◌∙◌, ap, subst, ℕ, �
 use Rattle.std.specs.Prelude.{◌==◌, slice_set, slice_index_or, Option, Some, IfSome, Contains}
 use Rattle.std.proofs.lemmas.Option.{slice_get-get_or}
 use Rattle.circuits.specs.Circuit.{Circuit, Gate, gate_of, net_count}
-use Rattle.circuits.specs.Limits.{AcceptsArity}
 use Rattle.circuits.specs.Sound.{IsSound}
 use Rattle.circuits.specs.Order.{IsInput, is_among}
 use Rattle.circuits.specs.declared.gate_word.GateWord.{GateWord}
 use Rattle.circuits.specs.declared.gate_word.GateWord.TheVariants.{And, Nand, Or, Nor, Xor, Xnor, Not, Buff}
-use Rattle.circuits.proofs.Gates.{gate-sized}
+use Rattle.circuits.proofs.Gates.{gate-sized, some_inputs}
 use Rattle.tables.specs.Table.{Table}
 use Rattle.checks.specs.Work.{gate_table}
 use Rattle.kind_laws.specs.declared.edge.Edge.{Edge}
@@ -80,16 +79,6 @@ is_input c net gate input of has = rw of has
 pub inputs_within : (c : Circuit) (net : ℕ) (gate : Gate) (edges : List Edge) → IsSound c → gate_of c net ≡ Some gate → length edges ≡ net_count c →
     (input : ℕ) → Contains gate.inputs input → input < length edges
 inputs_within c net gate edges sound of many input has = rw many (sound.inputs net input (is_input c net gate input of has))
-
-some_inputs : (word : GateWord) (n : ℕ) → AcceptsArity word n → 0 < n
-some_inputs And n h = h
-some_inputs Nand n h = h
-some_inputs Or n h = h
-some_inputs Nor n h = h
-some_inputs Xor n h = h
-some_inputs Xnor n h = h
-some_inputs Not n h = omega (arith, h)
-some_inputs Buff n h = omega (arith, h)
 
 pub reads_some : (c : Circuit) (net : ℕ) (gate : Gate) → IsSound c → gate_of c net ≡ Some gate → 0 < length gate.inputs
 reads_some c net gate sound of = some_inputs gate.word (length gate.inputs) (gate-sized c sound net gate of).arity

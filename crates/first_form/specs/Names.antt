@@ -5,11 +5,11 @@ use Rattle.std.specs.List.{list_any, list_all}
 use Rattle.std.specs.Str.{bytes_eq}
 use Rattle.circuits.specs.Circuit.{Circuit}
 use Rattle.circuits.specs.Examples.{half}
-use Rattle.circuits.specs.Limits.{longest_name}
+use Rattle.circuits.specs.declared.limits.TheConstants.{LONGEST_NAME}
 use Rattle.circuits.specs.Names.{is_name_byte, net_of}
 
 abbrev pub is_short : List ℕ → Bool
-is_short name = nat_le (length name) longest_name
+is_short name = nat_le (length name) LONGEST_NAME
 
 abbrev pub is_net_name : List ℕ → Bool
 is_net_name name = nat_lt 0 (length name) && is_short name && list_all is_name_byte name

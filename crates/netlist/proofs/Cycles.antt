@@ -9,20 +9,20 @@ use Rattle.circuits.proofs.Members.{Contains-gate_nets}
 use Rattle.circuits.specs.Circuit.{Circuit, input_count, gate_nets, fanin}
 use Rattle.circuits.specs.Cone.{IsReachedFrom}
 use Rattle.netlist.specs.Draft.{GateLine}
-use Rattle.netlist.specs.Finish.{is_on_cycle}
+use Rattle.circuits.specs.Cone.{reaches_itself}
 use Rattle.netlist.specs.Finishing.{call_at, cycle_call}
 use Rattle.circuits.specs.Sound.{IsSound}
 use Rattle.circuits.specs.Order.{IsAccepted, Reaches, step, steps, topological}
 
 -- on a cycle is what reaches itself
-pub circle-from : (c : Circuit) (net : ℕ) → is_on_cycle c net ≡ true → Reaches c net net
+pub circle-from : (c : Circuit) (net : ℕ) → reaches_itself c net ≡ true → Reaches c net net
 circle-from c net is = ⊎_elim (λ has. step has) (λ far. steps far.1 far.2) ((is_in_cone-reached c (fanin c net) net).0 is)
 
 from_reaches : {c : Circuit} {net to : ℕ} → Reaches c net to → IsReachedFrom c (fanin c net) to
 from_reaches (step has) = inl has
 from_reaches (steps {input = input} has rest) = inr (input, has, rest)
 
-pub on_cycle-from : (c : Circuit) (net : ℕ) → Reaches c net net → is_on_cycle c net ≡ true
+pub on_cycle-from : (c : Circuit) (net : ℕ) → Reaches c net net → reaches_itself c net ≡ true
 on_cycle-from c net circle = (is_in_cone-reached c (fanin c net) net).1 (from_reaches circle)
 
 pub accepted-from_none : (c : Circuit) (lines : List GateLine) → IsSound c → cycle_call c lines ≡ None → IsAccepted c
@@ -30,10 +30,10 @@ accepted-from_none c lines sound none = record {
   inputs = sound.inputs;
   outputs = sound.outputs;
   no_cycle = λ net circle.
-      both_ways (is_on_cycle c net) (none_least (is_on_cycle c) (call_at (input_count c) lines) (gate_nets c) none net (Contains-gate_nets c net (reader_is_gate circle))) (on_cycle-from c net circle);
+      both_ways (reaches_itself c net) (none_least (reaches_itself c) (call_at (input_count c) lines) (gate_nets c) none net (Contains-gate_nets c net (reader_is_gate circle))) (on_cycle-from c net circle);
 }
 
 pub none-from_full : (c : Circuit) (lines : List GateLine) → IsSound c → length (topological c) ≡ length c.gates → cycle_call c lines ≡ None
 none-from_full c lines sound full =
     let accepted : IsAccepted c = (accepted-iff_full c sound.outputs).1 full in
-    least-if_none (is_on_cycle c) (call_at (input_count c) lines) (gate_nets c) (λ net has. false_from_ne_true (is_on_cycle c net) (λ on. accepted.no_cycle net (circle-from c net on)))
+    least-if_none (reaches_itself c) (call_at (input_count c) lines) (gate_nets c) (λ net has. false_from_ne_true (reaches_itself c net) (λ on. accepted.no_cycle net (circle-from c net on)))

@@ -8,8 +8,9 @@ use Rattle.std.proofs.lemmas.List.{length_push, length-map, map_push}
 use Rattle.std.proofs.lemmas.List.Elements.{All-push}
 use Rattle.std.proofs.lemmas.List.Folds.{list_any-append}
 use Rattle.netlist.proofs.Sources.{is_some-found, FindsNames-input, FindsNames-gate, bytes_eq-flips}
-use Rattle.netlist.specs.Draft.{Draft, GateLine, OutputLine, is_defined, is_output, is_long, output_line, with_input, with_gate, input_is_too_large, gate_is_too_large, net_fault, input_fault, gate_fault, next_call, gate_line}
-use Rattle.circuits.specs.Limits.{AcceptsArity, IsShort, most_inputs, most_gates, most_fanin, longest_name}
+use Rattle.netlist.specs.Draft.{Draft, GateLine, OutputLine, is_defined, is_output, output_line, with_input, with_gate, input_is_too_large, gate_is_too_large, net_fault, input_fault, gate_fault, next_call, gate_line}
+use Rattle.circuits.specs.Limits.{AcceptsArity, IsShort, is_long}
+use Rattle.circuits.specs.declared.limits.TheConstants.{MOST_INPUTS, MOST_GATES, MOST_FANIN}
 use Rattle.netlist.specs.Maker.{IsKept, IsSizedLine, drafted, gate_kept}
 use Rattle.netlist.specs.declared.draft.DraftGate.{DraftGate}
 use Rattle.netlist.specs.declared.draft.DraftOutput.{DraftOutput}
@@ -39,11 +40,11 @@ module _ (d : Draft) (found : List ℕ → Option Source) (is_named : List ℕ �
   is_some-is_defined name = is_some-found d.inputs (map (λ line. line.name) d.gates) found kept.sources name
 
   -- what the code computes is the fault of the call
-  pub input_fault-is : (call n : ℕ) (o : Option NetFault) (is_too_large is_taken : Bool) (name : List ℕ) → o ≡ net_fault call is_too_large is_taken → call ≡ next_call d → is_too_large ≡ (is_long name || nat_le most_inputs n) → n ≡ length d.inputs → is_taken ≡ is_some (found name) → o ≡ input_fault d name
+  pub input_fault-is : (call n : ℕ) (o : Option NetFault) (is_too_large is_taken : Bool) (name : List ℕ) → o ≡ net_fault call is_too_large is_taken → call ≡ next_call d → is_too_large ≡ (is_long name || nat_le MOST_INPUTS n) → n ≡ length d.inputs → is_taken ≡ is_some (found name) → o ≡ input_fault d name
   input_fault-is call n o is_too_large is_taken name is same_call large same_n taken =
       is ∙ (rw (same_call, large, same_n, taken, is_some-is_defined name) refl)
 
-  pub gate_fault-is : (call n : ℕ) (o : Option NetFault) (is_too_large is_taken : Bool) (name : List ℕ) (inputs : List (List ℕ)) (any : Bool) (m : ℕ) → o ≡ net_fault call is_too_large is_taken → call ≡ next_call d → is_too_large ≡ (is_long name || any || nat_lt most_fanin m || nat_le most_gates n) → any ≡ list_any is_long inputs → m ≡ length inputs → n ≡ length d.gates → is_taken ≡ is_some (found name) → o ≡ gate_fault d name inputs
+  pub gate_fault-is : (call n : ℕ) (o : Option NetFault) (is_too_large is_taken : Bool) (name : List ℕ) (inputs : List (List ℕ)) (any : Bool) (m : ℕ) → o ≡ net_fault call is_too_large is_taken → call ≡ next_call d → is_too_large ≡ (is_long name || any || nat_lt MOST_FANIN m || nat_le MOST_GATES n) → any ≡ list_any is_long inputs → m ≡ length inputs → n ≡ length d.gates → is_taken ≡ is_some (found name) → o ≡ gate_fault d name inputs
   gate_fault-is call n o is_too_large is_taken name inputs any m is same_call large same_any same_m same_n taken =
       is ∙ (rw (same_call, large, same_any, same_m, same_n, taken, is_some-is_defined name) refl)
 
@@ -54,17 +55,17 @@ module _ (d : Draft) (found : List ℕ → Option Source) (is_named : List ℕ �
   pub IsKept-input : (name : List ℕ) (found' : List ℕ → Option Source) (d' : Draft) → d' ≡ with_input d name → input_fault d name ≡ None → (n : ℕ) → n ≡ length d.inputs → FindsOneMore found name (Input n) found' → IsKept d' found' is_named
   IsKept-input name found' d' is none n same_n more = subst (λ e. IsKept e found' is_named) (sym is) there
     where
-      sized : (is_long name ≡ false) × (nat_le most_inputs (length d.inputs) ≡ false)
+      sized : (is_long name ≡ false) × (nat_le MOST_INPUTS (length d.inputs) ≡ false)
       sized = or_parts _ _ (sized-from_net_fault (next_call d) (input_is_too_large d name) (is_defined d name) none)
 
-      room : length d.inputs < most_inputs
-      room = leb-false most_inputs (length d.inputs) sized.1
+      room : length d.inputs < MOST_INPUTS
+      room = leb-false MOST_INPUTS (length d.inputs) sized.1
 
       there : IsKept (with_input d name) found' is_named
       there = record {
         inputs = omega (arith, room, length_push d.inputs name);
         gates = kept.gates;
-        each_input = All-push IsShort d.inputs name kept.each_input (ltb-false longest_name (length name) sized.0);
+        each_input = All-push IsShort d.inputs name kept.each_input sized.0;
         each_gate = kept.each_gate;
         sources = FindsNames-input d.inputs (map (λ line. line.name) d.gates) found found' name kept.sources (not_found (next_call d) (input_is_too_large d name) name none) (subst (λ m. FindsOneMore found name (Input m) found') same_n more);
         outputs = kept.outputs;
@@ -83,23 +84,23 @@ module _ (d : Draft) (found : List ℕ → Option Source) (is_named : List ℕ �
       all_sized : (gate_is_too_large d name inputs ≡ false)
       all_sized = sized-from_net_fault (next_call d) (gate_is_too_large d name inputs) (is_defined d name) none
 
-      before_gates : ((is_long name || list_any is_long inputs || nat_lt most_fanin (length inputs)) ≡ false) × (nat_le most_gates (length d.gates) ≡ false)
+      before_gates : ((is_long name || list_any is_long inputs || nat_lt MOST_FANIN (length inputs)) ≡ false) × (nat_le MOST_GATES (length d.gates) ≡ false)
       before_gates = or_parts _ _ all_sized
 
-      before_fanin : ((is_long name || list_any is_long inputs) ≡ false) × (nat_lt most_fanin (length inputs) ≡ false)
+      before_fanin : ((is_long name || list_any is_long inputs) ≡ false) × (nat_lt MOST_FANIN (length inputs) ≡ false)
       before_fanin = or_parts _ _ before_gates.0
 
       short : is_long name ≡ false
       short = (or_parts _ _ before_fanin.0).0
 
-      room : length d.gates < most_gates
-      room = leb-false most_gates (length d.gates) before_gates.1
+      room : length d.gates < MOST_GATES
+      room = leb-false MOST_GATES (length d.gates) before_gates.1
 
       sized : IsSizedLine line
       sized = record {
-        name = ltb-false longest_name (length name) short;
+        name = short;
         arity = arity;
-        fanin = ltb-false most_fanin (length inputs) before_fanin.1;
+        fanin = ltb-false MOST_FANIN (length inputs) before_fanin.1;
       }
 
       finds : FindsNames d.inputs (names ++ name ∷ []) found'

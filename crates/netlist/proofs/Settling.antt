@@ -9,7 +9,7 @@ use Rattle.netlist.proofs.Cycles.{circle-from, on_cycle-from}
 use Rattle.circuits.proofs.Gates.{IsGate-from_input}
 use Rattle.circuits.proofs.Members.{among_push, among-append_left}
 use Rattle.circuits.specs.Circuit.{Circuit, IsGate, net_count}
-use Rattle.netlist.specs.Finish.{is_on_cycle}
+use Rattle.circuits.specs.Cone.{reaches_itself}
 use Rattle.netlist.specs.Leads.{Leads, IsClosed}
 use Rattle.circuits.specs.Order.{IsInput, Reaches, step, steps, is_among}
 use Rattle.netlist.specs.Postorder.{IsPostorder, ComesAfter}
@@ -24,7 +24,7 @@ pub record Settling (c : Circuit) (order : List ℕ) (settled alone : List Bool)
   pub within : (net : ℕ) → is_among order net ≡ true → net < net_count c
   pub left : (net : ℕ) → net < net_count c → bit_of settled net ≡ false → is_among order net ≡ true
   pub closed : (net input : ℕ) → IsInput c net input → bit_of settled input ≡ true → bit_of settled net ≡ true
-  pub right : (net : ℕ) → net < net_count c → bit_of settled net ≡ true → bit_of alone net ≡ not (is_on_cycle c net)
+  pub right : (net : ℕ) → net < net_count c → bit_of settled net ≡ true → bit_of alone net ≡ not (reaches_itself c net)
   pub fresh : (net : ℕ) → net < net_count c → bit_of settled net ≡ false → bit_of alone net ≡ false
 
 module _ (c : Circuit) where
@@ -87,36 +87,36 @@ module _ (c : Circuit) where
           listed : (x : ℕ) → Open x → is_among (rest ++ root ∷ []) x ≡ true
           listed x is = sym (ap (λ xs. is_among xs x) last) ∙ settling.left x is.0 is.1
 
-      known : (net : ℕ) → net < net_count c → bit_of settled' net ≡ true → bit_of alone' net ≡ not (is_on_cycle c net)
+      known : (net : ℕ) → net < net_count c → bit_of settled' net ≡ true → bit_of alone' net ≡ not (reaches_itself c net)
       known net low is = ⊎_elim before_now new (cases_Bool (bit_of settled net))
         where
           off_alone : (bit_of alone net ≡ false) → ((net ≡ root) × (bit_of settled root ≡ false) × ¬ Leads (list_at readers) root root → ⊥) → bit_of alone' net ≡ false
           off_alone off never = false_from_ne_true (bit_of alone' net) (λ on. ⊎_elim (λ old. both_ways (bit_of alone net) off old) never ((sets_apart net low).0 on))
 
-          before_now : bit_of settled net ≡ true → bit_of alone' net ≡ not (is_on_cycle c net)
+          before_now : bit_of settled net ≡ true → bit_of alone' net ≡ not (reaches_itself c net)
           before_now was = ⊎_elim
               (λ on. (sets_apart net low).1 (inl on) ∙ (sym on ∙ settling.right net low was))
               (λ off. off_alone off (λ both. both_ways (bit_of settled net) (ap (bit_of settled) both.0 ∙ both.1) was) ∙ (sym off ∙ settling.right net low was))
               (cases_Bool (bit_of alone net))
 
-          new : bit_of settled net ≡ false → bit_of alone' net ≡ not (is_on_cycle c net)
+          new : bit_of settled net ≡ false → bit_of alone' net ≡ not (reaches_itself c net)
           new off = ⊎_elim
               (λ was. absurd (both_ways (bit_of settled net) off was))
               (λ now. ⊎_elim at_root (λ found. reached (way_of found)) now)
               ((settles net low).0 is)
             where
-              reached : Reaches c net root → bit_of alone' net ≡ not (is_on_cycle c net)
+              reached : Reaches c net root → bit_of alone' net ≡ not (reaches_itself c net)
               reached way =
                   off_alone (settling.fresh net low off) (λ both. both.2 (leads (subst (λ x. Reaches c x root) both.0 way)))
                   ∙ ap not (sym (on_cycle-from c net (circle net low off way)))
 
-              at_root : net ≡ root → bit_of alone' net ≡ not (is_on_cycle c net)
+              at_root : net ≡ root → bit_of alone' net ≡ not (reaches_itself c net)
               at_root e = ⊎_elim
                   (λ on. reached (subst (λ x. Reaches c net x) e (circle-from c net on)))
                   (λ none.
-                  (sets_apart net low).1 (inr (e, subst (λ x. bit_of settled x ≡ false) e off, λ found. both_ways (is_on_cycle c net) none (on_cycle-from c net (subst (λ x. Reaches c x x) (sym e) (way_of found)))))
+                  (sets_apart net low).1 (inr (e, subst (λ x. bit_of settled x ≡ false) e off, λ found. both_ways (reaches_itself c net) none (on_cycle-from c net (subst (λ x. Reaches c x x) (sym e) (way_of found)))))
                   ∙ ap not (sym none))
-                  (cases_Bool (is_on_cycle c net))
+                  (cases_Bool (reaches_itself c net))
 
       kept : (net : ℕ) → net < net_count c → bit_of settled net ≡ true → bit_of settled' net ≡ true
       kept net low was = (settles net low).1 (inl was)

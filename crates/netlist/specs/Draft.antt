@@ -3,7 +3,8 @@ use Rattle.std.specs.Prelude.{◌≡◌, ℕ, ◌+◌, ◌-◌, ◌^◌, min, Bo
 use Rattle.std.specs.List.{list_any}
 use Rattle.std.specs.Str.{bytes_eq}
 use Rattle.netlist.specs.Fault.{fault}
-use Rattle.circuits.specs.Limits.{most_inputs, most_gates, most_fanin, longest_name}
+use Rattle.circuits.specs.Limits.{is_long}
+use Rattle.circuits.specs.declared.limits.TheConstants.{MOST_INPUTS, MOST_GATES, MOST_FANIN}
 use Rattle.netlist.specs.declared.fault.NetFault.{NetFault}
 use Rattle.netlist.specs.declared.fault.NetCause.TheVariants.{DuplicateNet, TooLarge}
 use Rattle.circuits.specs.declared.gate_word.GateWord.{GateWord}
@@ -69,17 +70,14 @@ draft_names d = d.inputs ++ map (λ line. line.name) d.gates
 abbrev pub is_defined : Draft → List ℕ → Bool
 is_defined d name = list_any (bytes_eq name) (draft_names d)
 
-abbrev pub is_long : List ℕ → Bool
-is_long name = nat_lt longest_name (length name)
-
 -- a name is too long, or there is no room for one more
 abbrev pub input_is_too_large : Draft → List ℕ → Bool
-input_is_too_large d name = is_long name || nat_le most_inputs (length d.inputs)
+input_is_too_large d name = is_long name || nat_le MOST_INPUTS (length d.inputs)
 
 -- the same of a gate, or it has too many inputs
 abbrev pub gate_is_too_large : Draft → List ℕ → List (List ℕ) → Bool
 gate_is_too_large d name inputs =
-    is_long name || list_any is_long inputs || nat_lt most_fanin (length inputs) || nat_le most_gates (length d.gates)
+    is_long name || list_any is_long inputs || nat_lt MOST_FANIN (length inputs) || nat_le MOST_GATES (length d.gates)
 
 -- the fault of a call that adds a net, if there is one
 abbrev pub net_fault : ℕ → Bool → Bool → Option NetFault

@@ -2,9 +2,9 @@
 use Rattle.std.specs.Prelude.{◌≡◌, ℕ, ◌-◌, min, Bool, not, List, [], ◌∷◌, ◌++◌, length, map, filter, Option, Some, None, unwrap_or, slice_get, codes, refl}
 use Rattle.std.specs.List.{list_any}
 use Rattle.std.specs.Option.{option_map, option_map_or, option_or}
-use Rattle.circuits.specs.Circuit.{Circuit, Gate, gate_nets, fanin}
+use Rattle.circuits.specs.Circuit.{Circuit, Gate, gate_nets}
 use Rattle.circuits.specs.Examples.{late}
-use Rattle.circuits.specs.Cone.{is_in_cone}
+use Rattle.circuits.specs.Cone.{reaches_itself}
 use Rattle.netlist.specs.Draft.{Draft, GateLine, late_draft, draft_names, is_defined, nothing, with_input, with_gate, with_output}
 use Rattle.netlist.specs.Fault.{fault}
 use Rattle.circuits.specs.Names.{place_of}
@@ -40,17 +40,13 @@ undefined_calls d =
     map (λ line. line.call) (filter (λ line. list_any (is_undefined d) line.inputs) d.gates)
     ++ map (λ line. line.call) (filter (λ line. is_undefined d line.name) d.outputs)
 
--- the gate of the net reaches itself along gate inputs
-abbrev pub is_on_cycle : Circuit → ℕ → Bool
-is_on_cycle c net = is_in_cone c (fanin c net) net
-
 -- the call that added the gate of a net
 abbrev pub call_of : Draft → ℕ → ℕ
 call_of d net = option_map_or (λ line. line.call) (slice_get d.gates (net - length d.inputs)) 0
 
 -- the calls whose gates reach themselves
 abbrev pub cycle_calls : Draft → List ℕ
-cycle_calls d = map (call_of d) (filter (is_on_cycle (circuit_of d)) (gate_nets (circuit_of d)))
+cycle_calls d = map (call_of d) (filter (reaches_itself (circuit_of d)) (gate_nets (circuit_of d)))
 
 abbrev pub undefined_fault : Draft → Option NetFault
 undefined_fault d = option_map (λ at. fault at UndefinedNet) (least (undefined_calls d))

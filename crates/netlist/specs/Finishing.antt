@@ -2,7 +2,8 @@
 use Rattle.std.specs.Prelude.{◌≡◌, ℕ, ◌-◌, ◌<◌, ◌^◌, min, slice_get, Bool, not, List, length, map, filter, Option, Some, None, is_some}
 use Rattle.std.specs.Option.{option_map_or}
 use Rattle.circuits.specs.Circuit.{Circuit, Gate, input_count, gate_nets}
-use Rattle.netlist.specs.Finish.{least, is_on_cycle}
+use Rattle.netlist.specs.Finish.{least}
+use Rattle.circuits.specs.Cone.{reaches_itself}
 use Rattle.netlist.specs.Draft.{Draft, GateLine}
 use Rattle.netlist.specs.Source.{source_net}
 use Rattle.netlist.specs.declared.source.Source.{Source}
@@ -38,4 +39,4 @@ circuit_in d found = record {
 
 -- the least call of a gate that reaches itself
 abbrev pub cycle_call : Circuit → List GateLine → Option ℕ
-cycle_call c lines = least (map (call_at (input_count c) lines) (filter (is_on_cycle c) (gate_nets c)))
+cycle_call c lines = least (map (call_at (input_count c) lines) (filter (reaches_itself c) (gate_nets c)))

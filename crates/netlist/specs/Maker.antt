@@ -2,7 +2,8 @@
 use Rattle.std.specs.Prelude.{◌≡◌, ℕ, ◌≤◌, Bool, List, map, length, All, Option, String, string_bytes}
 use Rattle.std.specs.declared.alloc.Global.{Global}
 use Rattle.netlist.specs.Draft.{Draft, GateLine, OutputLine, is_output}
-use Rattle.circuits.specs.Limits.{AcceptsArity, most_inputs, most_gates, most_fanin, IsShort}
+use Rattle.circuits.specs.Limits.{AcceptsArity, IsShort}
+use Rattle.circuits.specs.declared.limits.TheConstants.{MOST_INPUTS, MOST_GATES, MOST_FANIN}
 use Rattle.netlist.specs.Source.{FindsNames}
 use Rattle.netlist.specs.declared.draft.DraftGate.{DraftGate}
 use Rattle.netlist.specs.declared.draft.DraftOutput.{DraftOutput}
@@ -21,12 +22,12 @@ drafted calls inputs gates outputs = record { calls = calls; inputs = map string
 pub record IsSizedLine (line : GateLine) : Type 0 where
   pub name : IsShort line.name
   pub arity : AcceptsArity line.word (length line.inputs)
-  pub fanin : length line.inputs ≤ most_fanin
+  pub fanin : length line.inputs ≤ MOST_FANIN
 
 -- a draft within the limits, with its names and its outputs where they are looked up
 pub record IsKept (d : Draft) (found : List ℕ → Option Source) (is_named : List ℕ → Bool) : Type 0 where
-  pub inputs : length d.inputs ≤ most_inputs
-  pub gates : length d.gates ≤ most_gates
+  pub inputs : length d.inputs ≤ MOST_INPUTS
+  pub gates : length d.gates ≤ MOST_GATES
   pub each_input : All IsShort d.inputs
   pub each_gate : All IsSizedLine d.gates
   pub sources : FindsNames d.inputs (map (λ line. line.name) d.gates) found

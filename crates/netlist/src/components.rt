@@ -1,6 +1,6 @@
 ghost use Rattle.std.specs.Prelude.{◌≡◌, ℕ, ◌<◌, ◌⊎◌, ◌↔◌, true, false, not, length, IfOk, OnOk};
 ghost use Rattle.circuits.specs.Circuit.{net_count};
-ghost use Rattle.netlist.specs.Finish.{is_on_cycle};
+ghost use Rattle.circuits.specs.Cone.{reaches_itself};
 ghost use Rattle.netlist.specs.Leads.{Leads, IsClosed};
 ghost use Rattle.circuits.specs.Order.{is_among};
 ghost use Rattle.netlist.specs.Postorder.{IsPostorder};
@@ -19,7 +19,7 @@ use std::alloc::{AllocError, Global};
 /// first, is walked from to its readers, as far as they are not settled, which finds one component.
 pub(crate) fn off_cycles(alloc: Global, nets: &Nets) -> Result<Vec<bool>, AllocError>
     ensures length { IfOk result (λ alone. length alone.items ≡ net_count nets.now) }
-    ensures marks { IfOk result (λ alone. (net : ℕ) → net < net_count nets.now → bit_of alone.items net ≡ not (is_on_cycle nets.now net)) }
+    ensures marks { IfOk result (λ alone. (net : ℕ) → net < net_count nets.now → bit_of alone.items net ≡ not (reaches_itself nets.now net)) }
 {
     let order = postorder_of(alloc, nets)?;
     let readers = readers_of(alloc, nets)?;
@@ -39,7 +39,7 @@ fn settle_all(
     requires long { length readers.now ≡ net_count nets.now }
     requires counts { CountsReaders nets.now readers.now }
     ensures length { IfOk result (λ alone. length alone.items ≡ net_count nets.now) }
-    ensures marks { IfOk result (λ alone. (net : ℕ) → net < net_count nets.now → bit_of alone.items net ≡ not (is_on_cycle nets.now net)) }
+    ensures marks { IfOk result (λ alone. (net : ℕ) → net < net_count nets.now → bit_of alone.items net ≡ not (reaches_itself nets.now net)) }
 {
     let count = nets.count() as usize;
     let mut settled = vec![in alloc; false; count]?;

@@ -1,6 +1,6 @@
 ghost use Rattle.std.specs.Prelude.{◌≡◌, ℕ, ◌<◌, not, length, map, IfOk};
 ghost use Rattle.circuits.specs.Circuit.{net_count};
-ghost use Rattle.netlist.specs.Finish.{is_on_cycle};
+ghost use Rattle.circuits.specs.Cone.{reaches_itself};
 ghost use Rattle.netlist.specs.Finishing.{cycle_call};
 ghost use Rattle.netlist.specs.Maker.{gate_kept};
 ghost use Rattle.circuits.specs.Order.{topological};
@@ -42,7 +42,7 @@ fn first_cycle(alloc: Global, nets: &Nets, gates: &[DraftGate]) -> Result<Option
 fn first_on_cycle(nets: &Nets, gates: &[DraftGate], alone: &[bool]) -> Option<u32>
     requires lines { length gates.now ≡ length nets.now.gates }
     requires length { length alone.now ≡ net_count nets.now }
-    requires marks { (net : ℕ) → net < net_count nets.now → bit_of alone.now net ≡ not (is_on_cycle nets.now net) }
+    requires marks { (net : ℕ) → net < net_count nets.now → bit_of alone.now net ≡ not (reaches_itself nets.now net) }
     ensures { result ≡ cycle_call nets.now (map gate_kept gates.now) }
 {
     let inputs = nets.inputs() as usize;

@@ -3,10 +3,10 @@ ghost use Rattle.std.specs.HashMap.{get_by_text};
 ghost use Rattle.std.specs.HashSet.{contains_text};
 ghost use Rattle.std.specs.List.{list_any};
 ghost use Rattle.std.specs.Str.{bytes_eq};
-ghost use Rattle.netlist.specs.Draft.{nothing, counted, with_input, with_gate, with_output, input_fault, gate_fault, output_fault, is_long, net_fault, gate_line, output_line};
+ghost use Rattle.netlist.specs.Draft.{nothing, counted, with_input, with_gate, with_output, input_fault, gate_fault, output_fault, net_fault, gate_line, output_line};
 ghost use Rattle.netlist.specs.Fault.{Answers, AnswersInMemory};
 ghost use Rattle.netlist.specs.Finish.{circuit_of, finish_fault, undefined_fault};
-ghost use Rattle.circuits.specs.Limits.{AcceptsArity, most_inputs, most_gates, most_fanin};
+ghost use Rattle.circuits.specs.Limits.{AcceptsArity, is_long};
 ghost use Rattle.netlist.specs.Maker.{gate_kept, output_kept};
 ghost use Rattle.netlist.specs.Source.{FindsOneMore};
 
@@ -15,7 +15,7 @@ use crate::fault::{NetCause, NetError, NetFault};
 use crate::finish::{first_unknown, nets_of, without_cycle};
 use crate::netlist::Netlist;
 use crate::source::Source;
-use circuits::GateWord;
+use circuits::{GateWord, LONGEST_NAME, MOST_FANIN, MOST_GATES, MOST_INPUTS};
 use std::alloc::{AllocError, Global};
 use std::collections::{HashMap, HashSet};
 use std::marker::Model;
@@ -132,7 +132,7 @@ impl NetlistMaker {
 fn is_too_long(name: &str) -> bool
     ensures { result ≡ is_long name.now }
 {
-    name.len() > 64
+    name.len() > LONGEST_NAME
 }
 
 fn any_is_too_long(names: &[&str]) -> bool
@@ -142,15 +142,15 @@ fn any_is_too_long(names: &[&str]) -> bool
 }
 
 fn is_too_large_input(name: &str, inputs: usize) -> bool
-    ensures { result ≡ (is_long name.now || nat_le most_inputs inputs) }
+    ensures { result ≡ (is_long name.now || nat_le MOST_INPUTS inputs) }
 {
-    is_too_long(name) || inputs >= 256
+    is_too_long(name) || inputs >= MOST_INPUTS
 }
 
 fn is_too_large_gate(name: &str, inputs: &[&str], gates: usize) -> bool
-    ensures { result ≡ (is_long name.now || list_any (λ input. is_long input.now) inputs.now || nat_lt most_fanin (length inputs.now) || nat_le most_gates gates) }
+    ensures { result ≡ (is_long name.now || list_any (λ input. is_long input.now) inputs.now || nat_lt MOST_FANIN (length inputs.now) || nat_le MOST_GATES gates) }
 {
-    is_too_long(name) || any_is_too_long(inputs) || inputs.len() > 64 || gates >= 4096
+    is_too_long(name) || any_is_too_long(inputs) || inputs.len() > MOST_FANIN || gates >= MOST_GATES
 }
 
 /// The fault of a net that is too large, or whose name is taken.
@@ -173,7 +173,7 @@ fn put_input(
     sources: &mut HashMap<String, Source>,
     name: &str,
 ) -> Result<(), AllocError>
-    requires { vec_len inputs.old < 256 }
+    requires { vec_len inputs.old < MOST_INPUTS }
     ensures inputs { OnOk result (map string_bytes inputs.new.items ≡ map string_bytes inputs.old.items ++ name.now ∷ []) }
     ensures sources { OnOk result (FindsOneMore (get_by_text sources.old) name.now (Source.Input (length inputs.old.items)) (get_by_text sources.new)) }
     ensures inputs_stay { OnErr result (inputs.new.items ≡ inputs.old.items) }
@@ -223,7 +223,7 @@ fn put_gate(
     name: &str,
     gate: DraftGate,
 ) -> Result<(), AllocError>
-    requires { vec_len gates.old < 4096 }
+    requires { vec_len gates.old < MOST_GATES }
     ensures gates { OnOk result (gates.new.items ≡ gates.old.items ++ gate ∷ []) }
     ensures sources { OnOk result (FindsOneMore (get_by_text sources.old) name.now (Source.Gate (length gates.old.items)) (get_by_text sources.new)) }
     ensures gates_stay { OnErr result (gates.new.items ≡ gates.old.items) }

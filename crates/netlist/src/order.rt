@@ -2,7 +2,7 @@ ghost use Rattle.std.specs.Prelude.{◌≡◌, ◌==◌, ℕ, ◌+◌, ◌<◌, 
 ghost use Rattle.std.specs.BTreeSet.{contains};
 ghost use Rattle.std.specs.Ordering.{nat_cmp};
 ghost use Rattle.circuits.specs.Circuit.{net_count};
-ghost use Rattle.circuits.specs.Limits.{most_fanin};
+ghost use Rattle.circuits.specs.declared.limits.TheConstants.{MOST_FANIN};
 ghost use Rattle.circuits.specs.Order.{topological};
 ghost use Rattle.netlist.specs.Waiting.{CountsReaders, HasReader, is_gate, open_inputs, count_of, list_at};
 
@@ -73,7 +73,7 @@ fn waiting_of(alloc: Global, nets: &Nets) -> Result<Vec<u32>, AllocError>
 }
 
 fn count_gates(nets: &[u32], inputs: u32) -> u32
-    requires { length nets.now ≤ most_fanin }
+    requires { length nets.now ≤ MOST_FANIN }
     ensures { result ≡ count_by (λ net. nat_le inputs net) nets.now }
 {
     nets.iter().filter(|net| **net >= inputs).count() as u32

@@ -4,7 +4,7 @@ use Rattle.std.proofs.lemmas.Option.{slice_get-get_or, slice_get-map}
 use Rattle.std.specs.Option.{option_map}
 use Rattle.netlist.proofs.Calls.{cycles_more, earliest-none}
 use Rattle.circuits.specs.Circuit.{input_count, net_count}
-use Rattle.netlist.specs.Finish.{is_on_cycle}
+use Rattle.circuits.specs.Cone.{reaches_itself}
 use Rattle.netlist.specs.Finishing.{earliest}
 use Rattle.netlist.specs.Maker.{gate_kept}
 use Rattle.circuits.specs.Valuation.{bit_of}
@@ -26,8 +26,8 @@ loop-place-preserved c =
     in
     let net : ℕ = input_count c.args.nets.now + c.loop-place.place in
     let low : net < net_count c.args.nets.now = omega (arith, c.requires.lines, c.loop-place-test.true) in
-    let mark : bit_of c.args.alone.now (c.inputs-inputs.result + c.loop-place.place) ≡ not (is_on_cycle c.args.nets.now net) = rw c.inputs-inputs.ensures.inputs (c.requires.marks net low) in
-    let step = cycles_more (is_on_cycle c.args.nets.now) (input_count c.args.nets.now) (map gate_kept c.args.gates.now) c.loop-place.place (gate_kept c.index-gates-place.result) in
+    let mark : bit_of c.args.alone.now (c.inputs-inputs.result + c.loop-place.place) ≡ not (reaches_itself c.args.nets.now net) = rw c.inputs-inputs.ensures.inputs (c.requires.marks net low) in
+    let step = cycles_more (reaches_itself c.args.nets.now) (input_count c.args.nets.now) (map gate_kept c.args.gates.now) c.loop-place.place (gate_kept c.index-gates-place.result) in
     elim c.if-not-alone-inputs.branch [
       | then-not-alone-inputs w ↦ w.first-is ∙ (w.earliest-first.ensures ∙ (ap (λ o. earliest o (Some c.index-gates-place.result.call)) c.loop-place.invariant ∙ sym (step true at (is-from_not _ _ mark w.if-not-alone-inputs.true))))
       | else-not-alone-inputs w ↦ w.first-is ∙ (c.loop-place.invariant ∙ sym (step false at (is_not-from_not _ _ mark w.if-not-alone-inputs.false) ∙ earliest-none _))

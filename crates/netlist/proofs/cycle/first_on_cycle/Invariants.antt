@@ -1,10 +1,11 @@
 use Rattle.std.proofs.Common.{◌≡◌, map, filter}
 use Rattle.std.specs.List.{range_with_len}
 use Rattle.circuits.specs.Circuit.{input_count}
-use Rattle.netlist.specs.Finish.{least, is_on_cycle}
+use Rattle.netlist.specs.Finish.{least}
+use Rattle.circuits.specs.Cone.{reaches_itself}
 use Rattle.netlist.specs.Finishing.{call_at}
 use Rattle.netlist.specs.Maker.{gate_kept}
 use Rattle.netlist.proofs.cycle.first_on_cycle.Given as goal
 
 abbrev pub invariant-loop-place : goal.invariant-loop-place
-invariant-loop-place l = l.first ≡ least (map (call_at (input_count l.nets) (map gate_kept l.gates)) (filter (is_on_cycle l.nets) (range_with_len (input_count l.nets) l.place)))
+invariant-loop-place l = l.first ≡ least (map (call_at (input_count l.nets) (map gate_kept l.gates)) (filter (reaches_itself l.nets) (range_with_len (input_count l.nets) l.place)))

@@ -5,7 +5,8 @@ use Rattle.std.specs.HashMap.{get_by_text}
 use Rattle.std.specs.HashSet.{contains_text}
 use Rattle.netlist.proofs.Makers.{gate_fault-is, IsKept-gate, drafted-gate}
 use Rattle.netlist.proofs.Vecs.{vec_len-map, list_any-map}
-use Rattle.netlist.specs.Draft.{Draft, is_long, gate_fault}
+use Rattle.netlist.specs.Draft.{Draft, gate_fault}
+use Rattle.circuits.specs.Limits.{is_long}
 use Rattle.netlist.specs.Maker.{drafted, gate_kept}
 use Rattle.netlist.proofs.maker.NetlistMaker.add_gate.Goals as goal
 
