@@ -7,11 +7,11 @@ use Rattle.bench_reader.specs.Reading.{reading}
 use Rattle.spec_lang.specs.Specification.{Check, Specification}
 use Rattle.first_form.specs.FirstForm.{first_form}
 use Rattle.word_base.specs.declared.kind_name.KindName.TheVariants.{Hdd}
-use Rattle.checks.specs.Answer.{Verdict, answer, equal, different, overflow, full}
-use Rattle.checks.specs.Report.{status_of}
-use Rattle.checks.specs.declared.status.Status.{Status}
+use Rattle.checks.specs.Answer.{answer}
+use Rattle.checks.specs.declared.verdict.Verdict.{Verdict}
+use Rattle.checks.specs.declared.verdict.Verdict.TheVariants.{Equal, Different, Overflow, Full}
 use Rattle.outside.specs.Shelf.{told, IsLonger}
-use Rattle.report.specs.Lines.{brief_line}
+use Rattle.report.specs.Lines.{verdict_line}
 use Rattle.report.specs.declared.refusal.Refusal.{Refusal}
 use Rattle.report.specs.declared.refusal.Refusal.TheVariants as refusal
 use Rattle.kind_laws.proofs.GraphLaws.{some_tells}
@@ -19,6 +19,8 @@ use Rattle.cone_builder.proofs.NetLaws.{if_some_at}
 use Rattle.check_run.specs.Decided.{IsReported, IsVerdictOf}
 use Rattle.check_run.specs.Loaded.{Files, IsLoaded, IsRefused, IsText, SaysNetlist, SaysSpec, most_bytes}
 use Rattle.check_run.specs.Run.{Accepts, Answers, IsToldText, MeetsNoLimit, PutsAll, Reports}
+use Rattle.check_run.specs.Statuses.{status_of}
+use Rattle.check_run.specs.declared.status.Status.{Status}
 use Rattle.check_run.specs.Words.{Names, names_of}
 
 same_circuit : (text other : List ℕ) (c d : Circuit) → reading text ≡ Ok c → reading other ≡ Ok d → other ≡ text → d ≡ c
@@ -72,20 +74,20 @@ same_loaded words files c d s t check takes loaded =
     (circuit, some_tells told_spec)
 
 -- a verdict that is no limit is the answer
-no_limit : (c : Circuit) (s : Specification) (check : Check) (verdict : Verdict) → MeetsNoLimit c s check → IsVerdictOf c s check verdict → verdict ≡ answer Hdd c s check
-no_limit c s check (equal nodes) free is = is
-no_limit c s check (different left right at) free (_, _, is) = is
-no_limit c s check overflow free is = absurd (let none = free.not_over in cc)
-no_limit c s check full free is = absurd (let none = free.not_short in cc)
+no_limit : (c : Circuit) (s : Specification) (check : Check) (verdict : Verdict) → MeetsNoLimit c s check → IsVerdictOf c s check verdict → verdict ≡ answer c s check
+no_limit c s check Equal free is = is
+no_limit c s check (Different left right at) free (_, _, is) = is
+no_limit c s check Overflow free is = absurd (let none = free.not_over in cc)
+no_limit c s check Full free is = absurd (let none = free.not_short in cc)
 
 reported_answer : (words : List (List ℕ)) (files : Files) (c : Circuit) (s : Specification) (check : Check) (text : List ℕ) (status : Status) → Accepts words files c s check → MeetsNoLimit c s check →
-    Reports words files text status → (text ≡ brief_line 1 (map (name_of c) s.order) (answer Hdd c s check)) × (status ≡ status_of (answer Hdd c s check ∷ []))
+    Reports words files text status → (text ≡ verdict_line 1 (map (name_of c) s.order) (answer c s check)) × (status ≡ status_of (answer c s check ∷ []))
 reported_answer words files c s check text status takes free reports =
     let same = same_loaded words files c reports.circuit s reports.spec check takes reports.loaded in
     let reported = subst (λ (x : Specification). IsReported c x 0 reports.verdict) same.1 (subst (λ (x : Circuit). IsReported x reports.spec 0 reports.verdict) same.0 reports.reported) in
     let verdict = no_limit c s check reports.verdict free (if_some_at (slice_get s.checks 0) check (λ x. IsVerdictOf c s x reports.verdict) takes.check_is reported) in (
-      reports.text_is ∙ ap (λ (x : Circuit). brief_line 1 (map (name_of x) reports.spec.order) reports.verdict) same.0
-          ∙ ap (λ (x : Specification). brief_line 1 (map (name_of c) x.order) reports.verdict) same.1 ∙ ap (brief_line 1 (map (name_of c) s.order)) verdict,
+      reports.text_is ∙ ap (λ (x : Circuit). verdict_line 1 (map (name_of x) reports.spec.order) reports.verdict) same.0
+          ∙ ap (λ (x : Specification). verdict_line 1 (map (name_of c) x.order) reports.verdict) same.1 ∙ ap (verdict_line 1 (map (name_of c) s.order)) verdict,
       reports.status_is ∙ ap (λ (v : Verdict). status_of (v ∷ [])) verdict,
     )
 

@@ -11,10 +11,9 @@ use Rattle.spec_lang.specs.Formula.{Formula}
 use Rattle.spec_lang.specs.Specification.{Check, Specification, Word}
 use Rattle.spec_lang.specs.Value.{all_in_range, value}
 use Rattle.spec_lang.proofs.Values.{whole_in_range}
-use Rattle.tables.specs.Canonical.{node_count}
 use Rattle.tables.specs.Table.{tabulate}
 use Rattle.tables.proofs.TreeLaws.{and_left, and_right}
-use Rattle.checks.specs.Answer.{Difference, answer, entry_at, equal, different, first_difference}
+use Rattle.checks.specs.Answer.{Difference, answer, entry_at, first_difference}
 use Rattle.checks.specs.Limits.{over, short}
 use Rattle.checks.specs.declared.method.Method.TheVariants.{Forward}
 use Rattle.checks.specs.Sides.{side}
@@ -24,33 +23,32 @@ use Rattle.kind_laws.specs.declared.edge.Edge.{Edge}
 use Rattle.diagram.specs.View.{View, StandsAt}
 use Rattle.cone_builder.specs.Sides.{AreSides}
 use Rattle.cone_builder.proofs.NetLaws.{if_some_at}
-use Rattle.report.specs.Verdicts.{plain}
-use Rattle.report.specs.declared.verdict.Verdict.TheVariants.{Equal, Different, Overflow, Full}
-use Rattle.report.specs.declared.verdict.Verdict.{Verdict}
-use Rattle.check_run.specs.Decided.{IsDecided, IsVerdictOf, cells}
+use Rattle.checks.specs.declared.verdict.Verdict.TheVariants.{Equal, Different, Overflow, Full}
+use Rattle.checks.specs.declared.verdict.Verdict.{Verdict}
+use Rattle.check_run.specs.Decided.{IsReported, IsVerdictOf, cells}
 
 -- the check is there, and the verdict is one of it
-decided_at : (c : Circuit) (s : Specification) (place nodes : ℕ) (check : Check) (verdict : Verdict) → slice_get s.checks place ≡ Some check →
-    IsVerdictOf c s check (plain nodes verdict) → IsDecided c s place verdict
-decided_at c s place nodes check verdict is said =
-    (nodes, subst (λ (o : Option Check). IfSome o (λ x. IsVerdictOf c s x (plain nodes verdict))) (sym is) said)
+decided_at : (c : Circuit) (s : Specification) (place : ℕ) (check : Check) (verdict : Verdict) → slice_get s.checks place ≡ Some check →
+    IsVerdictOf c s check verdict → IsReported c s place verdict
+decided_at c s place check verdict is said =
+    subst (λ (o : Option Check). IfSome o (λ x. IsVerdictOf c s x verdict)) (sym is) said
 
-pub overflow_decided : (c : Circuit) (s : Specification) (place : ℕ) (check : Check) → slice_get s.checks place ≡ Some check → over Hdd Forward c s check ≡ true → IsDecided c s place Overflow
-overflow_decided c s place check is beyond = decided_at c s place 0 check Overflow is beyond
+pub overflow_decided : (c : Circuit) (s : Specification) (place : ℕ) (check : Check) → slice_get s.checks place ≡ Some check → over Hdd Forward c s check ≡ true → IsReported c s place Overflow
+overflow_decided c s place check is beyond = decided_at c s place check Overflow is beyond
 
-pub full_decided : (c : Circuit) (s : Specification) (place : ℕ) (check : Check) → slice_get s.checks place ≡ Some check → short Hdd Forward 1 cells c s check ≡ true → IsDecided c s place Full
-full_decided c s place check is spent = decided_at c s place 0 check Full is spent
+pub full_decided : (c : Circuit) (s : Specification) (place : ℕ) (check : Check) → slice_get s.checks place ≡ Some check → short Hdd Forward 1 cells c s check ≡ true → IsReported c s place Full
+full_decided c s place check is spent = decided_at c s place check Full is spent
 
 answer_of : (c : Circuit) (s : Specification) (check : Check) (o : Option Difference) → first_difference (side c s check.left) (side c s check.right) ≡ o →
-    option_map_or (λ d. different d.left d.right d.at) o (equal (node_count Hdd s.letters (side c s check.left))) ≡ answer Hdd c s check
-answer_of c s check o is = ap (λ p. option_map_or (λ d. different d.left d.right d.at) p (equal (node_count Hdd s.letters (side c s check.left)))) (sym is)
+    option_map_or (λ d. Different d.left d.right d.at) o Equal ≡ answer c s check
+answer_of c s check o is = ap (λ p. option_map_or (λ d. Different d.left d.right d.at) p Equal) (sym is)
 
 pub equal_decided : (c : Circuit) (s : Specification) (place : ℕ) (check : Check) → slice_get s.checks place ≡ Some check →
-    side c s check.left ≡ side c s check.right → IsDecided c s place Equal
+    side c s check.left ≡ side c s check.right → IsReported c s place Equal
 equal_decided c s place check is same =
     let left = side c s check.left in
     let none : first_difference left (side c s check.right) ≡ None = ap (first_difference left) (sym same) ∙ first_difference_found.none_of_same left in
-    decided_at c s place (node_count Hdd s.letters left) check Equal is (answer_of c s check None none)
+    decided_at c s place check Equal is (answer_of c s check None none)
 
 entry_of_tabulate : (n : ℕ) (f : List Bool → ℤ) (bits : List Bool) → length bits ≡ n → entry_at (tabulate n f) bits ≡ f bits
 entry_of_tabulate zero f [] many = refl
@@ -69,7 +67,7 @@ pub different_decided : (c : Circuit) (s : Specification) (place : ℕ) (check :
     first_difference (side c s check.left) (side c s check.right) ≡ Some d → at ≡ d.at →
     (all_in_range s.words (net_values c s at) check.left && all_in_range s.words (net_values c s at) check.right) ≡ true →
     left ≡ value s.words (net_values c s at) check.left → right ≡ value s.words (net_values c s at) check.right →
-    IsDecided c s place (Different left right at)
+    IsReported c s place (Different left right at)
 different_decided c s place check d left right at is found at_is fits left_is right_is =
     let t = side c s check.left in
     let u = side c s check.right in
@@ -84,8 +82,8 @@ different_decided c s place check d left right at is found at_is fits left_is ri
     ∙ sym (entry_of_tabulate n (λ b. value s.words (net_values c s b) check.right) bits first.full) ∙ first.right in
     let low : all_in_range s.words (net_values c s at) check.left ≡ true = and_left (all_in_range s.words (net_values c s at) check.left) (all_in_range s.words (net_values c s at) check.right) fits in
     let high : all_in_range s.words (net_values c s at) check.right ≡ true = and_right (all_in_range s.words (net_values c s at) check.left) (all_in_range s.words (net_values c s at) check.right) fits in
-    decided_at c s place 0 check (Different left right at) is
-    (value_in_range s.words (net_values c s at) check.left left left_is low, value_in_range s.words (net_values c s at) check.right right right_is high, ap (λ x. different x right at) l ∙ ap (λ x. different d.left x at) r ∙ ap (different d.left d.right) at_is ∙ answer_of c s check (Some d) found)
+    decided_at c s place check (Different left right at) is
+    (value_in_range s.words (net_values c s at) check.left left left_is low, value_in_range s.words (net_values c s at) check.right right right_is high, ap (λ x. Different x right at) l ∙ ap (λ x. Different d.left x at) r ∙ ap (Different d.left d.right) at_is ∙ answer_of c s check (Some d) found)
 
 -- what the edges of the sides stand for
 pub sides_at : (c : Circuit) (s : Specification) (place : ℕ) (check : Check) (v : View) (left right : Edge) → slice_get s.checks place ≡ Some check →

@@ -13,8 +13,8 @@ use Rattle.spec_lang.specs.Formula.{number, word, sum}
 use Rattle.spec_lang.specs.Specification.{Check, Specification, half_adder, half_adder_check}
 use Rattle.first_form.specs.FirstForm.{with_usual}
 use Rattle.word_base.specs.declared.kind_name.KindName.TheVariants.{Hdd}
-use Rattle.checks.specs.Answer.{different, overflow}
-use Rattle.checks.specs.declared.status.Status.TheVariants.{Done}
+use Rattle.checks.specs.declared.verdict.Verdict.TheVariants.{Different, Overflow}
+use Rattle.check_run.specs.declared.status.Status.TheVariants.{Done}
 use Rattle.report.specs.declared.refusal.Refusal.TheVariants as refusal
 use Rattle.check_run.specs.Decided.{IsVerdictOf}
 use Rattle.check_run.specs.Loaded.{Files, FailsToRead, IsRefused, IsText, SaysNetlist}
@@ -69,7 +69,7 @@ carry_once = record { left = sum (word 2) (word 3); right = sum (word 0) (word 1
 abbrev once : Specification
 once = with_usual half Hdd half_adder.words carry_once
 
-once-differs : IsVerdictOf half once carry_once (different (pos 1) (pos 2) (true ∷ true ∷ []))
+once-differs : IsVerdictOf half once carry_once (Different (pos 1) (pos 2) (true ∷ true ∷ []))
 once-differs = (lit≤ tt, lit≤ tt, refl)
 
 -- ---- a sum that is no weight
@@ -82,7 +82,7 @@ too_great = record { left = sum (number (pos 17014118346046923173168730371588410
 abbrev great : Specification
 great = with_usual pair Hdd [] too_great
 
-great-is_over : IsVerdictOf pair great too_great overflow
+great-is_over : IsVerdictOf pair great too_great Overflow
 great-is_over = refl
 
 -- ---- refusals

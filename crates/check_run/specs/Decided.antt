@@ -6,10 +6,9 @@ use Rattle.word_base.specs.declared.kind_name.KindName.TheVariants.{Hdd}
 use Rattle.word_base.specs.Range.{InRange}
 use Rattle.checks.specs.Limits.{over, short}
 use Rattle.checks.specs.declared.method.Method.TheVariants.{Forward}
-use Rattle.checks.specs.Answer as checks
 use Rattle.checks.specs.Answer.{answer}
-use Rattle.report.specs.Verdicts.{plain}
-use Rattle.report.specs.declared.verdict.Verdict.{Verdict}
+use Rattle.checks.specs.declared.verdict.Verdict.{Verdict}
+use Rattle.checks.specs.declared.verdict.Verdict.TheVariants.{Equal, Different, Overflow, Full}
 
 -- the nodes that a check has room for
 abbrev pub cells : ℕ
@@ -17,17 +16,12 @@ cells = 262144
 
 -- An overflow only where the check is over the range of weights, a full store only where it is short of cells, and the
 -- answer, whose values are weights
-abbrev pub IsVerdictOf : Circuit → Specification → Check → checks.Verdict → Type 0
-IsVerdictOf c s check checks.overflow = over Hdd Forward c s check ≡ true
-IsVerdictOf c s check checks.full = short Hdd Forward 1 cells c s check ≡ true
-IsVerdictOf c s check (checks.equal nodes) = checks.equal nodes ≡ answer Hdd c s check
-IsVerdictOf c s check (checks.different left right at) =
-    InRange left × InRange right × (checks.different left right at ≡ answer Hdd c s check)
+abbrev pub IsVerdictOf : Circuit → Specification → Check → Verdict → Type 0
+IsVerdictOf c s check Overflow = over Hdd Forward c s check ≡ true
+IsVerdictOf c s check Full = short Hdd Forward 1 cells c s check ≡ true
+IsVerdictOf c s check Equal = Equal ≡ answer c s check
+IsVerdictOf c s check (Different left right at) = InRange left × InRange right × (Different left right at ≡ answer c s check)
 
 -- the same of the check of a number
-abbrev pub IsReported : Circuit → Specification → ℕ → checks.Verdict → Type 0
+abbrev pub IsReported : Circuit → Specification → ℕ → Verdict → Type 0
 IsReported c s number verdict = IfSome (slice_get s.checks number) (λ check. IsVerdictOf c s check verdict)
-
--- a verdict says a limit, or the answer
-abbrev pub IsDecided : Circuit → Specification → ℕ → Verdict → Type 0
-IsDecided c s number verdict = (nodes : ℕ) × IsReported c s number (plain nodes verdict)

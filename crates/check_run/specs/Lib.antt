@@ -3,4 +3,5 @@ pub mod Fetched
 pub mod Halted
 pub mod Loaded
 pub mod Run
+pub mod Statuses
 pub mod Words

@@ -6,20 +6,21 @@ use Rattle.bench_reader.specs.Reading.{reading}
 use Rattle.spec_lang.specs.Specification.{Check, Specification}
 use Rattle.first_form.specs.FirstForm.{first_form}
 use Rattle.word_base.specs.declared.kind_name.KindName.TheVariants.{Hdd}
-use Rattle.checks.specs.Answer.{Verdict, answer}
+use Rattle.checks.specs.Answer.{answer}
+use Rattle.checks.specs.declared.verdict.Verdict.{Verdict}
 use Rattle.checks.specs.Limits.{over, short}
 use Rattle.checks.specs.declared.method.Method.TheVariants.{Forward}
-use Rattle.checks.specs.Report.{status_of}
-use Rattle.checks.specs.declared.status.Status.{Status}
-use Rattle.checks.specs.declared.status.Status.TheVariants.{Done, Differs, Refused, Limited, ReadFault, WriteFault, NoMemory}
+use Rattle.check_run.specs.declared.status.Status.{Status}
+use Rattle.check_run.specs.declared.status.Status.TheVariants.{Done, Differs, Refused, Limited, ReadFault, WriteFault, NoMemory}
 use Rattle.outside.specs.Count.{Rose}
 use Rattle.outside.specs.Shelf.{told}
 use Rattle.outside.specs.Sink.{AppendsPrefix}
-use Rattle.report.specs.Lines.{brief_line}
+use Rattle.report.specs.Lines.{verdict_line}
 use Rattle.report.specs.Refusals.{refusal_text}
 use Rattle.report.specs.declared.refusal.Refusal.{Refusal}
 use Rattle.check_run.specs.Decided.{IsReported, cells}
 use Rattle.check_run.specs.Loaded.{Files, IsLoaded, IsRefused, most_bytes}
+use Rattle.check_run.specs.Statuses.{status_of}
 use Rattle.check_run.specs.Words.{Names, names_of}
 
 -- one line that refuses
@@ -36,7 +37,7 @@ pub record Reports (words : List (List ℕ)) (files : Files) (text : List ℕ) (
   pub verdict : Verdict
   pub loaded : IsLoaded words files circuit spec
   pub reported : IsReported circuit spec 0 verdict
-  pub text_is : text ≡ brief_line 1 (map (name_of circuit) spec.order) verdict
+  pub text_is : text ≡ verdict_line 1 (map (name_of circuit) spec.order) verdict
   pub status_is : status ≡ status_of (verdict ∷ [])
 
 -- the text that a run has to put out, and the status that goes with it
@@ -92,5 +93,5 @@ pub record MeetsNoLimit (c : Circuit) (s : Specification) (check : Check) : Type
 
 -- the line of the answer was written, with its status
 pub record Answers (c : Circuit) (s : Specification) (check : Check) (old new : Option (List ℕ)) (status : Status) : Type 0 where
-  pub written : new ≡ append_known old (brief_line 1 (map (name_of c) s.order) (answer Hdd c s check))
-  pub status_is : status ≡ status_of (answer Hdd c s check ∷ [])
+  pub written : new ≡ append_known old (verdict_line 1 (map (name_of c) s.order) (answer c s check))
+  pub status_is : status ≡ status_of (answer c s check ∷ [])

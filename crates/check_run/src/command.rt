@@ -1,18 +1,16 @@
-ghost use Rattle.std.specs.Prelude.{◌≡◌, ◌⊎◌, ℕ, ◌≤◌, [], ◌∷◌, map, IfOk, IfErr, IsTrue, string_bytes};
+ghost use Rattle.std.specs.Prelude.{◌≡◌, ◌⊎◌, ℕ, ◌≤◌, map, IfOk, IfErr, IsTrue, string_bytes};
 ghost use Rattle.check_run.specs.Halted.{IsHalted};
 ghost use Rattle.check_run.specs.Loaded.{FailsToRead};
 ghost use Rattle.check_run.specs.Run.{Accepts, Answers, MeetsNoLimit, PutsAll, PutsPart, Says, is_written};
-ghost use Rattle.checks.specs.Report.{status_of};
-ghost use Rattle.circuits.specs.Circuit.{Circuit};
-ghost use Rattle.report.specs.Verdicts.{plain};
+ghost use Rattle.netlist.specs.Circuit.{Circuit};
 ghost use Rattle.spec_lang.specs.Specification.{Check, Specification};
 
 use crate::decide::decide;
 use crate::load::load;
+use crate::status::{Status, status_of};
 use crate::stop::{Halt, Stop};
-use checks::Status;
 use outside::{Gate, PutFailed, Shelf, Sink};
-use report::{Verdict, line, refusal_line};
+use report::{line, refusal_line};
 use std::alloc::{AllocError, Global};
 
 /// A text, and the status that goes with it.
@@ -20,16 +18,6 @@ use std::alloc::{AllocError, Global};
 struct Said {
     text: String,
     status: Status,
-}
-
-fn status_of(verdict: &Verdict) -> Status
-    ensures { (nodes : ℕ) → result ≡ status_of (plain nodes verdict.now ∷ []) }
-{
-    match verdict {
-        Verdict::Equal => Status::Done,
-        Verdict::Different { .. } => Status::Differs,
-        Verdict::Overflow | Verdict::Full => Status::Limited,
-    }
 }
 
 /// The line that the words and the files lead to.

@@ -1,15 +1,15 @@
 ghost use Rattle.std.specs.Prelude.{◌≡◌, ◌<◌, ◌≤◌, length, IfOk};
-ghost use Rattle.check_run.specs.Decided.{IsDecided};
+ghost use Rattle.check_run.specs.Decided.{IsReported};
 ghost use Rattle.cone_builder.specs.Sides.{AreSides};
 ghost use Rattle.diagram.specs.View.{AreAllP};
 ghost use Rattle.spec_lang.specs.WellFormed.{IsOver};
 
+use checks::Verdict;
 use cone_builder::{BuildError, build_one};
 use counterexample::first_difference;
 use diagram::Builder;
 use kind_laws::Edge;
 use netlist::Netlist;
-use report::Verdict;
 use spec_lang::{EvalError, Spec};
 use std::alloc::{AllocError, Global};
 use word_base::{Assign, Levels, LevelsFault};
@@ -46,7 +46,7 @@ fn compare(
     requires check { check < length spec.now.checks }
     requires levels { length builder.now.letters ≡ length spec.now.order }
     requires sides { AreSides netlist.now spec.now check builder.now left.now right.now }
-    ensures { IfOk result (λ verdict. IsDecided netlist.now spec.now check verdict) }
+    ensures { IfOk result (λ verdict. IsReported netlist.now spec.now check verdict) }
 {
     if builder.same(left, right) {
         return Ok(Verdict::Equal);
@@ -74,7 +74,7 @@ pub(crate) fn decide(
     requires over { IsOver netlist.now spec.now }
     requires check { check < length spec.now.checks }
     requires all_p { AreAllP spec.now.letters }
-    ensures { IfOk result (λ verdict. IsDecided netlist.now spec.now check verdict) }
+    ensures { IfOk result (λ verdict. IsReported netlist.now spec.now check verdict) }
 {
     let _inputs = netlist.inputs();
     let levels = levels_of(alloc, spec)?;

@@ -6,9 +6,12 @@
 mod command;
 mod decide;
 mod load;
+mod status;
 mod stop;
 #[cfg(test)]
 mod tests;
 mod words;
 
+pub use checks::{Method, Verdict};
 pub use command::run;
+pub use status::Status;

@@ -5,11 +5,10 @@ use Rattle.std.specs.Ordering.{int_eq}
 use Rattle.circuits.specs.Circuit.{Circuit}
 use Rattle.circuits.specs.Examples.{half}
 use Rattle.spec_lang.specs.Specification.{Check, Specification, half_adder, half_adder_check}
-use Rattle.tables.specs.Canonical.{node_count}
 use Rattle.tables.specs.Table.{Table, entry, halves}
-use Rattle.word_base.specs.declared.kind_name.KindName.{KindName}
-use Rattle.word_base.specs.declared.kind_name.KindName.TheVariants.{StarBmd}
 use Rattle.checks.specs.Sides.{side}
+use Rattle.checks.specs.declared.verdict.Verdict.{Verdict}
+use Rattle.checks.specs.declared.verdict.Verdict.TheVariants.{Equal, Different}
 
 -- where two tables differ: the bits from the top level down, and both entries
 pub record Difference : Type 0 where
@@ -57,20 +56,13 @@ pub record IsFirstDifference (n : ℕ) (t u : Table) (d : Difference) : Type 0 w
   pub differ : d.left ≡ d.right → ⊥
   pub same_before : (bits : List Bool) → length bits ≡ n → IsBefore bits d.at → entry_at t bits ≡ entry_at u bits
 
--- what a line of the report says: the sides are equal, with the nodes of their canonical diagram; they differ, with
--- both values and the bits of the inputs from the top level down; or a limit was met
-pub data Verdict : Type 0 where
-  equal : ℕ → Verdict
-  different : ℤ → ℤ → List Bool → Verdict
-  overflow : Verdict
-  full : Verdict
-
--- the answer to a check that meets no limit
-abbrev pub answer : KindName → Circuit → Specification → Check → Verdict
-answer k c s check =
-    option_map_or (λ d. different d.left d.right d.at)
+-- the answer to a check that meets no limit: the sides are equal, or they differ, with both values and the bits of the
+-- inputs from the top level down
+abbrev pub answer : Circuit → Specification → Check → Verdict
+answer c s check =
+    option_map_or (λ d. Different d.left d.right d.at)
     (first_difference (side c s check.left) (side c s check.right))
-    (equal (node_count k s.letters (side c s check.left)))
+    Equal
 
 second_entry : first_difference (halves (entry (pos 1)) (entry (pos 2))) (halves (entry (pos 1)) (entry (negsuc 0)))
     ≡ Some (record { at = true ∷ []; left = pos 2; right = negsuc 0 })
@@ -82,5 +74,5 @@ third_entry = refl
 second_before_third : IsBefore (false ∷ true ∷ []) (true ∷ false ∷ []) ≡ Unit {0}
 second_before_third = refl
 
-half-answer : answer StarBmd half half_adder half_adder_check ≡ equal 2
+half-answer : answer half half_adder half_adder_check ≡ Equal
 half-answer = refl

@@ -4,6 +4,5 @@ pub mod FormulaWork
 pub mod Forward
 pub mod Laws
 pub mod Limits
-pub mod Report
 pub mod Sides
 pub mod Work

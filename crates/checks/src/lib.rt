@@ -1,18 +1,18 @@
-//! What is answered to a check, when a limit may be answered in its place, and the report.
+//! What is answered to a check, and when a limit may be answered in its place.
 //!
 //! The definitions stand in `specs/`: the two sides of a check as tables (`Sides`), its answer (`Answer`), the
 //! tables that the operations on diagrams go through (`Work`), those of a check by either method (`Forward`,
-//! `Backward`), when a check is over the range of weights or short of cells (`Limits`), the bytes of the report
-//! (`Report`), and the laws of all these (`Laws`), each the contract of a function of `laws`.
+//! `Backward`), when a check is over the range of weights or short of cells (`Limits`), and the laws of all these
+//! (`Laws`), each the contract of a function of `laws`.
 #![tactic(auto)]
 
 mod laws;
 mod method;
-mod status;
+mod verdict;
 
 pub use laws::{
     first_difference_found, formula_tables, gate_tables, input_tables, sides_are_over,
     walk_finds_first, word_tables,
 };
 pub use method::Method;
-pub use status::Status;
+pub use verdict::Verdict;

@@ -4,7 +4,7 @@ use Rattle.std.specs.List.{zip, flat_map, slice_get}
 use Rattle.std.proofs.lemmas.List.{take_more, take_all, flat_map_more}
 use Rattle.std.proofs.lemmas.Option.{get_or_from_slice_get, slice_get_within}
 use Rattle.std.proofs.lemmas.Slice.Zip.{length-zip, get_or-zip}
-use Rattle.checks.specs.Report.{assignment, digit}
+use Rattle.report.specs.Lines.{assignment, digit}
 
 -- what is written of a name and its bit
 abbrev pub entry : List ℕ × Bool → List ℕ

@@ -1,2 +1,1 @@
-pub mod AnswerLines
 mod Assignments

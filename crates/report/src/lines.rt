@@ -1,11 +1,9 @@
-ghost use Rattle.std.specs.Prelude.{◌≡◌, ℕ, ◌<◌, ◌++◌, map, codes, length, All, IfOk, OnOk, string_bytes};
+ghost use Rattle.std.specs.Prelude.{◌≡◌, ◌<◌, ◌++◌, map, codes, length, All, IfOk, OnOk, string_bytes};
 ghost use Rattle.std.specs.Fmt.{signed_decimal};
-ghost use Rattle.checks.specs.Report.{assignment, digit};
-ghost use Rattle.circuits.specs.Circuit.{net_count, name_of};
-ghost use Rattle.report.specs.Lines.{brief, brief_line};
-ghost use Rattle.report.specs.Verdicts.{plain};
+ghost use Rattle.netlist.specs.Circuit.{net_count, name_of};
+ghost use Rattle.report.specs.Lines.{assignment, digit, verdict_line, verdict_text};
 
-use crate::verdict::Verdict;
+use checks::Verdict;
 use netlist::Netlist;
 use std::alloc::{AllocError, Global};
 use word_base::{Assign, Weight};
@@ -22,9 +20,8 @@ pub fn line(
     verdict: &Verdict,
 ) -> Result<String, AllocError>
     requires { All (λ net. net < net_count netlist.now) order.now }
-    // whatever number of nodes equal sides have: it is left out
-    ensures { IfOk result (λ text. (nodes : ℕ) → string_bytes text
-        ≡ brief_line number (map (name_of netlist.now) order.now) (plain nodes verdict.now)) }
+    ensures { IfOk result (λ text. string_bytes text
+        ≡ verdict_line number (map (name_of netlist.now) order.now) verdict.now) }
 {
     let mut text = format!(in alloc; "check {number} ")?;
     push_verdict(&mut text, netlist, order, verdict)?;
@@ -40,8 +37,8 @@ fn push_verdict(
     verdict: &Verdict,
 ) -> Result<(), AllocError>
     requires { All (λ net. net < net_count netlist.now) order.now }
-    ensures { OnOk result ((nodes : ℕ) → string_bytes text.new ≡ string_bytes text.old
-        ++ brief (map (name_of netlist.now) order.now) (plain nodes verdict.now)) }
+    ensures { OnOk result (string_bytes text.new ≡ string_bytes text.old
+        ++ verdict_text (map (name_of netlist.now) order.now) verdict.now) }
 {
     match verdict {
         Verdict::Equal => text.push_str("equal"),

@@ -1,5 +1,6 @@
 use super::*;
 use bench_reader::{BenchCause, BenchFault, read};
+use checks::Verdict;
 use netlist::Netlist;
 use std::alloc::{AllocError, Global};
 use std::process::Abort;

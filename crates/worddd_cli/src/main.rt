@@ -2,8 +2,7 @@
 //! the netlist, prints one line, and ends with the number of its status.
 #![tactic(auto)]
 
-use check_run::run;
-use checks::Status;
+use check_run::{Status, run};
 use outside::{FileShelf, OpenGate, StreamSink};
 use std::alloc::{AllocError, Global};
 use std::env;

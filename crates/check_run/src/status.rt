@@ -1,5 +1,7 @@
-ghost use Rattle.std.specs.Prelude.{◌≡◌};
-ghost use Rattle.checks.specs.Report.{status_number};
+ghost use Rattle.std.specs.Prelude.{◌≡◌, [], ◌∷◌};
+ghost use Rattle.check_run.specs.Statuses.{status_number, status_of};
+
+use checks::Verdict;
 
 /// How a run ended.
 #[derive(Clone, Copy, Debug, PartialEq, Eq)]
@@ -34,5 +36,16 @@ impl Status {
             Status::WriteFault => 5,
             Status::NoMemory => 6,
         }
+    }
+}
+
+/// The status of a run that wrote the line of a verdict.
+pub(crate) fn status_of(verdict: &Verdict) -> Status
+    ensures { result ≡ status_of (verdict.now ∷ []) }
+{
+    match verdict {
+        Verdict::Equal => Status::Done,
+        Verdict::Different { .. } => Status::Differs,
+        Verdict::Overflow | Verdict::Full => Status::Limited,
     }
 }
