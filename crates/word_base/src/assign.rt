@@ -28,18 +28,21 @@ impl Assign {
         Ok(Assign { bits })
     }
 
+    /// How many places there are.
     pub fn len(&self) -> u16
         ensures { result ≡ length self.now }
     {
         self.bits.len() as u16
     }
 
+    /// Whether there are none.
     pub fn is_empty(&self) -> bool
         ensures { result ≡ (length self.now == 0) }
     {
         self.bits.is_empty()
     }
 
+    /// The bit at the place.
     pub fn get(&self, place: u16) -> bool
         requires { place < length self.now }
         ensures { slice_get self.now place ≡ Some result }

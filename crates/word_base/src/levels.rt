@@ -1,10 +1,13 @@
 ghost use Rattle.std.specs.Prelude.{◌≡◌, ◌<◌, ◌↔◌, ◌==◌, length, slice_get, IfOk};
-ghost use Rattle.word_base.specs.Levels.{most_levels};
+ghost use Rattle.word_base.specs.declared.levels.TheConstants.{MOST_LEVELS};
 
 use crate::decomp::Decomp;
 use std::alloc::{AllocError, Global};
 use std::fmt;
 use std::marker::Model;
+
+/// The levels that a diagram may have: one for each of 256 inputs and 4,096 gates.
+pub const MOST_LEVELS: usize = 4352;
 
 /// The letters of a diagram's levels, from the top level down. Level 0 is the top.
 #[derive(Debug, Drop)]
@@ -16,19 +19,19 @@ impl Model for Levels {
     ghost use Rattle.std.specs.Prelude.{List, length, ◌≤◌};
     ghost use Rattle.std.specs.Coded.{coded_list};
     ghost use Rattle.word_base.specs.declared.decomp.Decomp.{Decomp};
-    ghost use Rattle.word_base.specs.Levels.{most_levels};
+    ghost use Rattle.word_base.specs.declared.levels.TheConstants.{MOST_LEVELS};
 
     ghost Value = { List Decomp };
 
     ghost view = { λ l. l.letters.items };
 
-    ghost invariant = { λ l. length l.letters.items ≤ most_levels };
+    ghost invariant = { λ l. length l.letters.items ≤ MOST_LEVELS };
 }
 
 /// Why there are no such levels.
 #[derive(Clone, Copy, Debug, PartialEq, Eq)]
 pub enum LevelsFault {
-    /// More than 4,352 letters: 256 inputs and 4,096 gates have a level each at most.
+    /// More than `MOST_LEVELS` letters.
     TooMany,
     /// Want of memory.
     Memory,
@@ -42,7 +45,7 @@ impl fmt::Display for LevelsFault {
 
     fn fmt<W: fmt::Write>(&self, f: &mut fmt::Formatter<W>) -> fmt::Result {
         match self {
-            LevelsFault::TooMany => write!(f, "more than 4352 levels"),
+            LevelsFault::TooMany => write!(f, "more than {MOST_LEVELS} levels"),
             LevelsFault::Memory => write!(f, "out of memory"),
         }
     }
@@ -51,11 +54,12 @@ impl fmt::Display for LevelsFault {
 impl std::error::Error for LevelsFault {}
 
 impl Levels {
+    /// The levels of these letters, the top level's first.
     pub fn new(alloc: Global, letters: &[Decomp]) -> Result<Levels, LevelsFault>
         ensures letters { IfOk result (λ l. l ≡ letters.now) }
-        ensures too_many { (result ≡ Err LevelsFault.TooMany) ↔ (most_levels < length letters.now) }
+        ensures too_many { (result ≡ Err LevelsFault.TooMany) ↔ (MOST_LEVELS < length letters.now) }
     {
-        if letters.len() > 4352 {
+        if letters.len() > MOST_LEVELS {
             return Err(LevelsFault::TooMany);
         }
         match Vec::from_slice(alloc, letters) {
@@ -64,12 +68,14 @@ impl Levels {
         }
     }
 
+    /// How many levels there are.
     pub fn len(&self) -> u16
         ensures { result ≡ length self.now }
     {
         self.letters.len() as u16
     }
 
+    /// Whether there are none.
     pub fn is_empty(&self) -> bool
         ensures { result ≡ (length self.now == 0) }
     {

@@ -20,5 +20,5 @@ mod weight;
 pub use assign::Assign;
 pub use decomp::Decomp;
 pub use kind_name::{KindName, allows, usual};
-pub use levels::{Levels, LevelsFault};
+pub use levels::{Levels, LevelsFault, MOST_LEVELS};
 pub use weight::{Overflow, Weight};

@@ -41,7 +41,11 @@ fn weights_are_exact_or_overflow(rt: HostRuntime) {
     assert_eq!(rt; least.mul(Weight::ONE), Ok(least));
     assert_eq!(rt; Weight::MAX.mul(weight(&rt, 2)), Err(Overflow));
     assert_eq!(rt; weight(&rt, 7).neg().get(), -7);
-    assert_eq!(rt; Weight::ZERO.get(), 0);
+    let (zero, one, two, greatest) = Weight::constants();
+    assert_eq!(rt;
+        (zero.get(), one.get(), two.get(), greatest.get()),
+        (0, 1, 2, i128::MAX)
+    );
 }
 
 #[test]

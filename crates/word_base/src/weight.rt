@@ -1,4 +1,4 @@
-ghost use Rattle.std.specs.Prelude.{◌≡◌, ◌↔◌, pos, ◌+ℤ◌, ◌-ℤ◌, ◌*ℤ◌, neg_ℤ, IsSome, IfSome, IsErr, MatchOption};
+ghost use Rattle.std.specs.Prelude.{◌≡◌, ◌↔◌, ◌-◌, ◌^◌, pos, ◌+ℤ◌, ◌-ℤ◌, ◌*ℤ◌, neg_ℤ, IsSome, IfSome, IsErr, MatchOption};
 ghost use Rattle.std.specs.Result.{OkIff};
 ghost use Rattle.word_base.specs.Range.{InRange};
 
@@ -41,13 +41,27 @@ impl fmt::Display for Overflow {
 impl std::error::Error for Overflow {}
 
 impl Weight {
+    /// 0.
     pub const ZERO: Weight = Weight { value: 0 };
 
+    /// 1.
     pub const ONE: Weight = Weight { value: 1 };
 
+    /// 2.
     pub const TWO: Weight = Weight { value: 2 };
+
     /// `2^127-1`, the greatest weight; the least is its negative.
     pub const MAX: Weight = Weight { value: i128::MAX };
+
+    /// `ZERO`, `ONE`, `TWO` and `MAX`, whose values a contract tells here.
+    pub fn constants() -> (Weight, Weight, Weight, Weight)
+        ensures zero { result.0 ≡ pos 0 }
+        ensures one { result.1 ≡ pos 1 }
+        ensures two { result.2 ≡ pos 2 }
+        ensures max { result.3 ≡ pos (2 ^ 127 - 1) }
+    {
+        (Self::ZERO, Self::ONE, Self::TWO, Self::MAX)
+    }
 
     /// The number as a weight: `None` for `-2^127` alone.
     pub fn new(value: i128) -> Option<Weight>
@@ -61,6 +75,7 @@ impl Weight {
         }
     }
 
+    /// The weight as a number.
     pub fn get(self) -> i128
         ensures value { result ≡ self }
         ensures in_range { InRange result }
@@ -68,24 +83,28 @@ impl Weight {
         self.value
     }
 
+    /// The exact sum.
     pub fn add(self, other: Weight) -> Result<Weight, Overflow>
         ensures { OkIff result (InRange (self +ℤ other)) (self +ℤ other) }
     {
         checked(self.value.checked_add(other.value))
     }
 
+    /// The exact difference.
     pub fn sub(self, other: Weight) -> Result<Weight, Overflow>
         ensures { OkIff result (InRange (self -ℤ other)) (self -ℤ other) }
     {
         checked(self.value.checked_sub(other.value))
     }
 
+    /// The exact product.
     pub fn mul(self, other: Weight) -> Result<Weight, Overflow>
         ensures { OkIff result (InRange (self *ℤ other)) (self *ℤ other) }
     {
         checked(self.value.checked_mul(other.value))
     }
 
+    /// The negative, which each weight has.
     pub fn neg(self) -> Weight
         ensures { result ≡ neg_ℤ self }
     {
