@@ -8,6 +8,7 @@ use Rattle.spec_lang.specs.Formula.{Formula, number, word, sum, difference, prod
 use Rattle.spec_lang.specs.Specification.{Check, Specification, single, half_adder, half_adder_check}
 use Rattle.tables.specs.Canonical.{node_count}
 use Rattle.tables.specs.Table.{entry, halves}
+use Rattle.tables.specs.Tree.{leaf, node, weights}
 use Rattle.word_base.specs.declared.decomp.Decomp.{Decomp}
 use Rattle.word_base.specs.declared.decomp.Decomp.TheVariants.{N, P, S}
 use Rattle.word_base.specs.declared.kind_name.KindName.{KindName}
@@ -19,11 +20,15 @@ use Rattle.checks.proofs.FirstDifference.{first_difference_found}
 use Rattle.checks.specs.Backward.{backward_letters, backward_nets, backward_work}
 use Rattle.checks.specs.Forward.{building_work, forward_work, input_work}
 use Rattle.checks.specs.Sides.{side}
-use Rattle.checks.specs.Limits.{need, over, passes, piece_fits, short}
+use Rattle.checks.specs.Limits.{need, nodes_of, over, passes, piece_fits, short}
 
 -- the nodes of the left side's canonical diagram
 abbrev pub side_nodes : KindName → Circuit → Specification → Check → ℕ
 side_nodes k c s check = node_count k s.letters (side c s check.left)
+
+-- 2^126 times a formula
+abbrev great : Formula → Formula
+great f = product (number (pos 85070591730234615865843651857942052864)) f
 
 -- two inputs and no gate; an inverter; z = NOR(a, b); no net at all
 abbrev pair : Circuit
@@ -79,12 +84,33 @@ half-not_short = refl
 half-short_of_two : short StarBmd Forward 2 262 half half_adder half_adder_check ≡ true
 half-short_of_two = refl
 
+half-not_short_of_two : short StarBmd Forward 2 263 half half_adder half_adder_check ≡ false
+half-not_short_of_two = refl
+
+-- backward its need is 10, and two passes serve any number of workers above one
+half-short_backward : short StarBmd Backward 3 266 half half_adder half_adder_check ≡ true
+half-short_backward = refl
+
+half-not_short_backward : short StarBmd Backward 3 267 half half_adder half_adder_check ≡ false
+half-not_short_backward = refl
+
 -- from the top level down c, s, a and b
 half-levels : backward_nets half half_adder half_adder_check ≡ 3 ∷ 2 ∷ 0 ∷ 1 ∷ []
 half-levels = refl
 
 half-letters : backward_letters Evbdd half half_adder half_adder_check ≡ S ∷ S ∷ P ∷ P ∷ []
 half-letters = refl
+
+-- a gate and words that the check does not name are no part of its work: s == s has the variables of both inputs, the XOR (37)
+-- and 3 tables of its word, and a level for s alone above those of the inputs
+abbrev same_sum : Check
+same_sum = record { left = word 2; right = word 2 }
+
+same_sum-work : length (forward_work half half_adder same_sum) ≡ 42
+same_sum-work = refl
+
+same_sum-levels : backward_nets half half_adder same_sum ≡ 2 ∷ 0 ∷ 1 ∷ []
+same_sum-levels = refl
 
 -- ---- an inverter, with the words y and a
 abbrev inverted : Check → Specification
@@ -107,6 +133,35 @@ inverter-equal_nodes = refl
 -- 20 + 1 + 3 + 20 + 1 + 3 + 1 + 4
 inverter-backward_work : length (backward_work StarBmd inverter (inverted complement) complement) ≡ 53
 inverter-backward_work = refl
+
+-- At Shannon a product over the level of a goes through 3 tables, and 5 with its operands; beside it stands the difference of
+-- the cut function's parts (4). So each side has 4 + 4 + 4 + 5 + 3 tables of the cut, which is 20 too
+abbrev inverted_at_shannon : Check → Specification
+inverted_at_shannon check = record { order = 0 ∷ []; letters = S ∷ []; words = single (codes "y") 1 ∷ single (codes "a") 0 ∷ []; checks = check ∷ [] }
+
+shannon-backward_work : length (backward_work Evbdd inverter (inverted_at_shannon complement) complement) ≡ 53
+shannon-backward_work = refl
+
+-- y == a differs, so that the walk at the level of a and below it is work: twice 20 + 1 + 3, and 4
+abbrev unchanged : Check
+unchanged = record { left = word 0; right = word 1 }
+
+shannon-backward_walk : length (backward_work Evbdd inverter (inverted_at_shannon unchanged) unchanged) ≡ 52
+shannon-backward_walk = refl
+
+-- the variable of a, the NOT (4), 3 tables of each word, and the walk
+shannon-forward_walk : length (forward_work inverter (inverted_at_shannon unchanged) unchanged) ≡ 15
+shannon-forward_walk = refl
+
+-- 2^126 times y and 2^126 times a: at no assignment both are 1, but the backward method has y and a as variables
+abbrev never_both : Check
+never_both = record { left = sum (great (word 0)) (great (word 1)); right = great (number (pos 1)) }
+
+never_both-forward : over Hdd Forward inverter (inverted never_both) never_both ≡ false
+never_both-forward = refl
+
+never_both-backward : over Hdd Backward inverter (inverted never_both) never_both ≡ true
+never_both-backward = refl
 
 -- y - 2 == 0 - a
 abbrev less_two : Check
@@ -196,10 +251,26 @@ too_great = record { left = sum (number (pos 17014118346046923173168730371588410
 too_great-over : over KStarBmd Backward pair (of_pair (0 ∷ 1 ∷ []) too_great) too_great ≡ true
 too_great-over = refl
 
--- ---- 2^126*a + 2^126*b is 2^127 where both are 1, though each table that it goes through fits
-abbrev great : Formula → Formula
-great f = product (number (pos 85070591730234615865843651857942052864)) f
+-- where both sides are the same, no value is asked, but the table of the sum is work
+abbrev too_great_twice : Check
+too_great_twice = record { left = too_great.left; right = too_great.left }
 
+too_great_twice-over : over Hdd Forward pair (of_pair (0 ∷ 1 ∷ []) too_great_twice) too_great_twice ≡ true
+too_great_twice-over = refl
+
+-- ---- a table is judged, and its nodes are counted, by the letters from its level on
+shannon-below : piece_fits Hdd (P ∷ S ∷ []) (record { level = 1; table = halves (entry (negsuc 0)) (entry (pos 170141183460469231731687303715884105727)) }) ≡ true
+shannon-below = refl
+
+davio-below : piece_fits Hdd (S ∷ P ∷ []) (record { level = 1; table = halves (entry (negsuc 0)) (entry (pos 170141183460469231731687303715884105727)) }) ≡ false
+davio-below = refl
+
+-- 5 and 7 are the halves at Shannon; with the high part 2 at positive Davio they are another node, of the same level
+nodes-below : nodes_of Hdd (P ∷ S ∷ []) (record { level = 1; table = halves (entry (pos 5)) (entry (pos 7)) } ∷ record { level = 1; table = entry (pos 5) } ∷ [])
+    ≡ node 1 (weights (pos 5) (pos 0)) leaf (weights (pos 7) (pos 0)) leaf ∷ []
+nodes-below = refl
+
+-- ---- 2^126*a + 2^126*b is 2^127 where both are 1, though each table that it goes through fits
 abbrev great_sum : Formula
 great_sum = sum (great (word 0)) (great (word 1))
 

@@ -208,6 +208,12 @@ turn n a b c e low high bits o p of_low of_high h =
     by_bit false (Some l) k is from to lows highs f = ap (λ rest. false ∷ rest) (lows l.at refl) ∙ cc
     by_bit false None k is from to lows highs f = absurd (false≢true (from refl))
 
+-- the bits of a step and of the steps after it, case by case
+step_cases : (ds : List Decomp) (same : Bool) (a b c e : Table) →
+    same ∷ walk_bits ds (if same then b else a) (if same then e else c) ≡ (if same then true ∷ walk_bits ds b e else false ∷ walk_bits ds a c)
+step_cases ds true a b c e = refl
+step_cases ds false a b c e = refl
+
 goes : (ds : List Decomp) (t u : Table) (bits : List Bool) → IsOver (length ds) t → IsOver (length ds) u →
     bits_of (first_difference t u) ≡ Some bits → walk_bits ds t u ≡ bits
 goes [] (entry x) (entry y) bits o p h = one_entry (int_eq x y) h
@@ -220,10 +226,12 @@ goes [] (entry x) (halves c e) bits o p h = absurd p
 goes (d ∷ ds) (entry x) u bits o p h = absurd o
 goes (d ∷ ds) (halves a b) (entry y) bits o p h = absurd p
 goes (S ∷ ds) (halves a b) (halves c e) bits o p h =
-    turn (length ds) a b c e (walk_bits ds a c) (walk_bits ds b e) bits o.0 p.0
+    step_cases ds (same_table a c) a b c e
+    ∙ turn (length ds) a b c e (walk_bits ds a c) (walk_bits ds b e) bits o.0 p.0
     (λ rest. goes ds a c rest o.0 p.0) (λ same rest. goes ds b e rest o.1 p.1) h
 goes (P ∷ ds) (halves a b) (halves c e) bits o p h =
-    turn (length ds) a b c e (walk_bits ds a c) (walk_bits ds (minus b a) (minus e c)) bits o.0 p.0
+    step_cases ds (same_table a c) a (minus b a) c (minus e c)
+    ∙ turn (length ds) a b c e (walk_bits ds a c) (walk_bits ds (minus b a) (minus e c)) bits o.0 p.0
     (λ rest. goes ds a c rest o.0 p.0)
     (λ same rest there. goes ds (minus b a) (minus e c) rest
     (IsOver-zip_with (length ds) (λ x y. x -ℤ y) b a o.1 o.0)
@@ -231,7 +239,8 @@ goes (P ∷ ds) (halves a b) (halves c e) bits o p h =
     (ap (λ v. bits_of (first_difference (minus b a) (minus e v))) (sym same) ∙ bits_of-minus (length ds) b e a o.1 p.1 o.0 ∙ there)) h
 goes (N ∷ ds) (halves a b) (halves c e) bits o p h =
     let go = λ (x y : Table). if same_table x y then true ∷ walk_bits ds b e else false ∷ walk_bits ds x y in
-    ap (λ x. go x (plus e (minus c e))) (plus-minus (length ds) b a o.1 o.0)
+    step_cases ds (same_table (plus b (minus a b)) (plus e (minus c e))) (plus b (minus a b)) b (plus e (minus c e)) e
+    ∙ ap (λ x. go x (plus e (minus c e))) (plus-minus (length ds) b a o.1 o.0)
     ∙ ap (go a) (plus-minus (length ds) e c p.1 p.0)
     ∙ turn (length ds) a b c e (walk_bits ds a c) (walk_bits ds b e) bits o.0 p.0
     (λ rest. goes ds a c rest o.0 p.0) (λ same rest. goes ds b e rest o.1 p.1) h

@@ -9,10 +9,9 @@ use Rattle.circuits.specs.Valuation.{bit_of, gate_value, after_rounds}
 use Rattle.spec_lang.proofs.Placed.{length-placed}
 use Rattle.spec_lang.specs.Placed.{place_in, placed, net_values}
 use Rattle.tables.proofs.TableLaws.{both_halves}
-use Rattle.tables.specs.Table.{tabulate}
+use Rattle.tables.specs.Table.{tabulate, variable_table}
 use Rattle.checks.proofs.Tabulated.{tabulate-same}
 use Rattle.checks.specs.Laws.{InputTables}
-use Rattle.checks.specs.Sides.{input_table}
 
 -- after any rounds an input has its bit
 input_at_bit : (c : Circuit) (bits : List Bool) (net rounds : ℕ) → length bits ≡ input_count c → net < input_count c →
@@ -22,7 +21,7 @@ input_at_bit c bits net (suc rounds) many low =
     get_or_append_left bits (map (λ gate. gate_value gate (after_rounds c bits rounds)) c.gates) false net (omega arith)
 
 -- the bit of a level, tabulated
-bit-tabulate : (n l : ℕ) → tabulate n (λ bits. number_of (bit_of bits l)) ≡ input_table n l
+bit-tabulate : (n l : ℕ) → tabulate n (λ bits. number_of (bit_of bits l)) ≡ variable_table n l
 bit-tabulate zero l = refl
 bit-tabulate (suc n) zero = refl
 bit-tabulate (suc n) (suc l) = both_halves (bit-tabulate n l) (bit-tabulate n l)

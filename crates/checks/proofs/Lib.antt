@@ -3,6 +3,7 @@ pub mod FirstDifference
 pub mod FormulaTables
 pub mod GateTables
 pub mod InputTables
+mod Replaced
 pub mod Tabulated
 pub mod Vectors
 pub mod WordTables

@@ -2,19 +2,17 @@
 -- top variable is replaced by its gate's polynomial, until inputs alone are left.
 use Rattle.std.specs.Prelude.{ℕ, ◌+◌, List, [], ◌∷◌, ◌++◌, map, reverse, flat_map, length, replicate, drop}
 use Rattle.std.specs.Option.{option_map_or}
-use Rattle.circuits.specs.Circuit.{Circuit, Gate, net_count, gate_of}
-use Rattle.circuits.specs.Cone.{cone}
-use Rattle.circuits.specs.Polynomial.{number_of}
-use Rattle.circuits.specs.Valuation.{bit_of}
+use Rattle.netlist.specs.Circuit.{Circuit, Gate, net_count, gate_of}
+use Rattle.netlist.specs.Cone.{cone}
 use Rattle.spec_lang.specs.Formula.{Formula}
 use Rattle.spec_lang.specs.Named.{words_named, nets_named, nets_of_side}
 use Rattle.spec_lang.specs.Placed.{place_in, placed}
 use Rattle.spec_lang.specs.Specification.{Check, Specification}
 use Rattle.spec_lang.specs.Value.{value, nets_of}
-use Rattle.tables.specs.Table.{Table, plus, minus, times, part0, part1, tabulate}
+use Rattle.tables.specs.Table.{Table, plus, minus, times, part0, part1, tabulate, variable_table}
 use Rattle.word_base.specs.Kind.{usual_letter}
 use Rattle.word_base.specs.declared.decomp.Decomp.{Decomp}
-use Rattle.word_base.specs.declared.decomp.Decomp.TheVariants.{S}
+use Rattle.word_base.specs.declared.decomp.Decomp.TheVariants.{S, P, N}
 use Rattle.word_base.specs.declared.kind_name.KindName.{KindName}
 use Rattle.tables.specs.Pieces.{Piece, pieces, add_work, sub_work, mul_work}
 use Rattle.checks.specs.Work.{gate_table, gate_work, word_work}
@@ -34,22 +32,27 @@ backward_letters k c s check = replicate (length (cut_gates c s check)) (usual_l
 
 -- the table of a net's variable over levels with these nets
 abbrev pub variable : List ℕ → ℕ → Table
-variable nets net = tabulate (length nets) (λ bits. number_of (bit_of bits (place_in nets net)))
+variable nets net = variable_table (length nets) (place_in nets net)
 
 -- a formula with each net as a variable
 abbrev pub cut_side : Circuit → Specification → List ℕ → Formula → Table
 cut_side c s nets formula = tabulate (length nets) (λ bits. value s.words (placed (net_count c) nets bits) formula)
 
--- The cut function with its top variable replaced by p. No kind's usual letter is negative Davio
+-- The cut function with its top variable replaced by p: the low half, and p times what the high half has more. At
+-- negative Davio the low half is the sum of both parts, and the high part what the low half has more
 abbrev pub replaced : Decomp → Table → Table → Table
 replaced S f p = plus (part0 S f) (times p (minus (part1 S f) (part0 S f)))
-replaced d f p = plus (part0 d f) (times p (part1 d f))
+replaced P f p = plus (part0 P f) (times p (part1 P f))
+replaced N f p = minus (plus (part0 N f) (part1 N f)) (times p (part1 N f))
 
 abbrev pub replace_work : Decomp → List Decomp → ℕ → Table → Table → List Piece
 replace_work S ds l f p =
     let change = minus (part1 S f) (part0 S f) in
     sub_work l (part1 S f) (part0 S f) ++ mul_work ds l p change ++ add_work l (part0 S f) (times p change)
-replace_work d ds l f p = mul_work ds l p (part1 d f) ++ add_work l (part0 d f) (times p (part1 d f))
+replace_work P ds l f p = mul_work ds l p (part1 P f) ++ add_work l (part0 P f) (times p (part1 P f))
+replace_work N ds l f p =
+    let product = times p (part1 N f) in
+    add_work l (part0 N f) (part1 N f) ++ mul_work ds l p (part1 N f) ++ sub_work l (plus (part0 N f) (part1 N f)) product
 
 -- One gate of the cut, whose level is l: the cut function and its parts, the variables of the gate's inputs, the steps
 -- of its polynomial and of the replacement. The nets and the letters are those of the levels below

@@ -6,9 +6,10 @@ use Rattle.spec_lang.specs.Formula.{Formula, number, word, negative, sum, differ
 use Rattle.spec_lang.specs.Placed.{place_in}
 use Rattle.spec_lang.specs.Specification.{Specification}
 use Rattle.spec_lang.specs.Value.{nets_of}
-use Rattle.tables.specs.Table.{Table, IsOver, plus, minus, times, opposite, multiple, constant_table}
+use Rattle.tables.specs.Table.{Table, halves, IsOver, plus, minus, times, opposite, multiple, constant_table, variable_table}
 use Rattle.checks.specs.Answer.{Difference, IsFirstDifference, first_difference}
-use Rattle.checks.specs.Sides.{net_table, input_table, side}
+use Rattle.checks.specs.Backward.{replaced}
+use Rattle.checks.specs.Sides.{net_table, side}
 use Rattle.checks.specs.Work.{gate_table, multiples, partial_sums, word_table, walk_bits}
 use Rattle.word_base.specs.declared.decomp.Decomp.{Decomp}
 
@@ -20,7 +21,7 @@ pub record SidesAreOver : Type 0 where
 -- the table of an input's net is that of its level's variable, and 0 everywhere where the order does not list the input
 abbrev pub InputTables : Type 0
 InputTables = (c : Circuit) (s : Specification) (net : ℕ) → net < input_count c →
-    net_table c s net ≡ input_table (length s.order) (place_in s.order net)
+    net_table c s net ≡ variable_table (length s.order) (place_in s.order net)
 
 -- the table of a gate's net in an accepted circuit, of those of the nets that the gate reads
 abbrev pub GateTables : Type 0
@@ -46,6 +47,11 @@ pub record WordTables : Type 0 where
       slice_index_or (multiples 1 ts) i d ≡ multiple (pos (2 ^ i)) (slice_index_or ts i d)
   pub partial_sum_at : (ts : List Table) (i : ℕ) (d : Table) → i < length ts →
       slice_index_or (partial_sums (multiples 1 ts)) i d ≡ word_table (take (i + 1) ts)
+
+-- replacing the top variable goes by the halves at each letter: the low one, and p times what the high one has more
+abbrev pub TopVariableReplaced : Type 0
+TopVariableReplaced = (n : ℕ) (d : Decomp) (lo hi p : Table) → IsOver n lo → IsOver n hi → IsOver n p →
+    replaced d (halves lo hi) p ≡ plus lo (times p (minus hi lo))
 
 -- `first_difference` of tables over the same levels finds none exactly where the tables are the same, and else the first
 pub record FirstDifferenceFound : Type 0 where

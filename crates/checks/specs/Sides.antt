@@ -1,31 +1,22 @@
 -- The two sides of a check, as tables over the inputs in the order of the specification.
-use Rattle.std.specs.Prelude.{◌≡◌, ℕ, zero, suc, pos, [], ◌∷◌, length, refl}
-use Rattle.circuits.specs.Circuit.{Circuit}
-use Rattle.circuits.specs.Examples.{half}
-use Rattle.circuits.specs.Polynomial.{number_of}
-use Rattle.circuits.specs.Valuation.{bit_of}
+use Rattle.std.specs.Prelude.{◌≡◌, ℕ, pos, [], ◌∷◌, length, refl}
+use Rattle.netlist.specs.Circuit.{Circuit}
+use Rattle.netlist.specs.Circuits.{half}
+use Rattle.netlist.specs.Polynomial.{number_of}
+use Rattle.netlist.specs.Valuation.{bit_of}
 use Rattle.spec_lang.specs.Formula.{Formula}
 use Rattle.spec_lang.specs.Placed.{net_values}
 use Rattle.spec_lang.specs.Specification.{Specification, half_adder, half_adder_check}
 use Rattle.spec_lang.specs.Value.{value}
-use Rattle.tables.specs.Table.{Table, entry, halves, tabulate, entries, constant_table}
+use Rattle.tables.specs.Table.{Table, tabulate, entries}
 
 -- the table of a net
 abbrev pub net_table : Circuit → Specification → ℕ → Table
 net_table c s net = tabulate (length s.order) (λ bits. number_of (bit_of (net_values c s bits) net))
 
--- the table over so many levels of the variable of one of them, counted from the top; 0 everywhere past the last level
-abbrev pub input_table : ℕ → ℕ → Table
-input_table zero level = entry (pos 0)
-input_table (suc n) zero = halves (constant_table n (pos 0)) (constant_table n (pos 1))
-input_table (suc n) (suc level) = halves (input_table n level) (input_table n level)
-
 -- the table of a formula
 abbrev pub side : Circuit → Specification → Formula → Table
 side c s formula = tabulate (length s.order) (λ bits. value s.words (net_values c s bits) formula)
-
-second-input : entries (input_table 2 1) ≡ pos 0 ∷ pos 1 ∷ pos 0 ∷ pos 1 ∷ []
-second-input = refl
 
 half-left : entries (side half half_adder half_adder_check.left) ≡ pos 0 ∷ pos 1 ∷ pos 1 ∷ pos 2 ∷ []
 half-left = refl

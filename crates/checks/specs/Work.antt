@@ -1,8 +1,9 @@
 -- The tables that gates, words and the walk go through.
-use Rattle.std.specs.Prelude.{◌≡◌, ℕ, ◌+◌, ◌*◌, ℤ, pos, Bool, true, false, List, [], ◌∷◌, ◌++◌, fold, if◌then◌else◌, refl}
-use Rattle.circuits.specs.Polynomial.{step, is_negated}
-use Rattle.circuits.specs.declared.gate_word.GateWord.{GateWord}
-use Rattle.circuits.specs.declared.gate_word.GateWord.TheVariants.{And, Nand, Or, Nor, Xor, Xnor, Not, Buff}
+use Rattle.std.specs.Prelude.{◌≡◌, ℕ, ◌+◌, ◌*◌, ℤ, pos, Bool, true, false, List, [], ◌∷◌, ◌++◌, map, flat_map, fold, if◌then◌else◌, refl}
+use Rattle.std.specs.List.{enumerate_from}
+use Rattle.netlist.specs.Polynomial.{step, is_negated}
+use Rattle.netlist.specs.declared.gate_word.GateWord.{GateWord}
+use Rattle.netlist.specs.declared.gate_word.GateWord.TheVariants.{And, Nand, Or, Nor, Xor, Xnor, Not, Buff}
 use Rattle.tables.specs.Table.{Table, entry, halves, zip_with, plus, minus, times, opposite, multiple, part0, part1, same_table}
 use Rattle.tables.specs.Pieces.{Piece, pieces, like, mul_work}
 use Rattle.word_base.specs.declared.decomp.Decomp.{Decomp}
@@ -84,51 +85,76 @@ abbrev pub word_work : ℕ → List Table → List Piece
 word_work l bits = pieces l (bits ++ multiples 1 bits ++ partial_sums (multiples 1 bits))
 
 -- ---- the walk to the first difference
-abbrev pub sum_of_parts : Decomp → Table → Table
-sum_of_parts d t = plus (part0 d t) (part1 d t)
+-- The tables by which a step of the walk chooses, and those to which it goes where these are the same: at Shannon and
+-- positive Davio the low and the high parts, at negative Davio the sums of both parts and the low ones
+abbrev pub tried : Decomp → Table → Table
+tried S t = part0 S t
+tried P t = part0 P t
+tried N t = plus (part0 N t) (part1 N t)
 
--- The two tables of each step, and at negative Davio the sums of their parts. At Shannon and positive Davio the walk
--- goes to the low parts where these differ, and else to the high ones; at negative Davio to the sums of the parts
--- where these differ, and else to the low ones
-abbrev pub walk : List Decomp → ℕ → Table → Table → List Piece
-walk [] l a b = pieces l (a ∷ b ∷ [])
-walk (S ∷ ds) l a b =
-    pieces l (a ∷ b ∷ [])
-    ++ (if same_table (part0 S a) (part0 S b)
-    then walk ds (l + 1) (part1 S a) (part1 S b)
-    else walk ds (l + 1) (part0 S a) (part0 S b))
-walk (P ∷ ds) l a b =
-    pieces l (a ∷ b ∷ [])
-    ++ (if same_table (part0 P a) (part0 P b)
-    then walk ds (l + 1) (part1 P a) (part1 P b)
-    else walk ds (l + 1) (part0 P a) (part0 P b))
-walk (N ∷ ds) l a b =
-    pieces l (a ∷ b ∷ []) ++ pieces (l + 1) (sum_of_parts N a ∷ sum_of_parts N b ∷ [])
-    ++ (if same_table (sum_of_parts N a) (sum_of_parts N b)
-    then walk ds (l + 1) (part0 N a) (part0 N b)
-    else walk ds (l + 1) (sum_of_parts N a) (sum_of_parts N b))
+abbrev pub other : Decomp → Table → Table
+other S t = part1 S t
+other P t = part1 P t
+other N t = part0 N t
 
--- the bits by which this walk goes
+-- the tables that a step makes beside the parts of its two
+abbrev pub made : Decomp → Table → Table → List Table
+made S a b = []
+made P a b = []
+made N a b = tried N a ∷ tried N b ∷ []
+
+-- a step: the bit by which it goes, what it makes, and the two tables below to which it goes
+pub record Step : Type 0 where
+  pub bit : Bool
+  pub made : List Table
+  pub left : Table
+  pub right : Table
+
+-- to the tables that are tried where these differ, by the bit 0, and else to the others, by the bit 1
+abbrev pub step_at : Decomp → Table → Table → Step
+step_at d a b =
+    let bit = same_table (tried d a) (tried d b) in
+    record {
+      bit = bit;
+      made = made d a b;
+      left = if bit then other d a else tried d a;
+      right = if bit then other d b else tried d b;
+    }
+
+abbrev pub steps : List Decomp → Table → Table → List Step
+steps [] a b = []
+steps (d ∷ ds) a b = let first = step_at d a b in first ∷ steps ds first.left first.right
+
+-- the bits by which the walk goes
 abbrev pub walk_bits : List Decomp → Table → Table → List Bool
-walk_bits [] a b = []
-walk_bits (S ∷ ds) a b =
-    if same_table (part0 S a) (part0 S b)
-    then true ∷ walk_bits ds (part1 S a) (part1 S b)
-    else false ∷ walk_bits ds (part0 S a) (part0 S b)
-walk_bits (P ∷ ds) a b =
-    if same_table (part0 P a) (part0 P b)
-    then true ∷ walk_bits ds (part1 P a) (part1 P b)
-    else false ∷ walk_bits ds (part0 P a) (part0 P b)
-walk_bits (N ∷ ds) a b =
-    if same_table (sum_of_parts N a) (sum_of_parts N b)
-    then true ∷ walk_bits ds (part0 N a) (part0 N b)
-    else false ∷ walk_bits ds (sum_of_parts N a) (sum_of_parts N b)
+walk_bits ds a b = map (λ s. s.bit) (steps ds a b)
+
+-- the two tables with which it begins, and those of each step
+abbrev pub walk : List Decomp → ℕ → Table → Table → List Piece
+walk ds l a b =
+    pieces l (a ∷ b ∷ [])
+    ++ flat_map (λ (level, s). pieces level (s.made ++ s.left ∷ s.right ∷ [])) (enumerate_from (l + 1) (steps ds a b))
 
 abbrev with_last : ℤ → Table
 with_last z = halves (halves (entry (pos 3)) (entry (pos 1))) (halves (entry (pos 4)) (entry z))
 
 walk_to_last : walk_bits (P ∷ N ∷ []) (with_last (pos 6)) (with_last (pos 5)) ≡ true ∷ true ∷ []
 walk_to_last = refl
+
+-- At positive Davio the low halves are the same, so it goes to the differences of the high and the low halves. At negative
+-- Davio the sums of the parts are the first entries, which are the same too, so it goes to the last entries
+walk_to_last-tables : walk (P ∷ N ∷ []) 3 (with_last (pos 6)) (with_last (pos 5))
+    ≡ pieces 3 (with_last (pos 6) ∷ with_last (pos 5) ∷ [])
+    ++ pieces 4 (halves (entry (pos 1)) (entry (pos 5)) ∷ halves (entry (pos 1)) (entry (pos 4)) ∷ [])
+    ++ pieces 5 (entry (pos 1) ∷ entry (pos 1) ∷ entry (pos 5) ∷ entry (pos 4) ∷ [])
+walk_to_last-tables = refl
+
+-- the low halves differ at Shannon, and the sums of the parts at negative Davio
+walk_to_first : walk (S ∷ N ∷ []) 0 (with_last (pos 6)) (halves (halves (entry (pos 2)) (entry (pos 1))) (entry (pos 0)))
+    ≡ pieces 0 (with_last (pos 6) ∷ halves (halves (entry (pos 2)) (entry (pos 1))) (entry (pos 0)) ∷ [])
+    ++ pieces 1 (halves (entry (pos 3)) (entry (pos 1)) ∷ halves (entry (pos 2)) (entry (pos 1)) ∷ [])
+    ++ pieces 2 (entry (pos 3) ∷ entry (pos 2) ∷ entry (pos 3) ∷ entry (pos 2) ∷ [])
+walk_to_first = refl
 
 -- the three bits 0, 1 and 1 make 6
 word_of_three : word_table (entry (pos 0) ∷ entry (pos 1) ∷ entry (pos 1) ∷ []) ≡ entry (pos 6)

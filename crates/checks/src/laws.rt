@@ -1,4 +1,4 @@
-ghost use Rattle.checks.specs.Laws.{FirstDifferenceFound, FormulaTables, GateTables, InputTables, SidesAreOver, WalkFindsFirst, WordTables};
+ghost use Rattle.checks.specs.Laws.{FirstDifferenceFound, FormulaTables, GateTables, InputTables, SidesAreOver, TopVariableReplaced, WalkFindsFirst, WordTables};
 
 /// The tables of nets and of formulas are over the levels of the specification's order.
 pub fn sides_are_over()
@@ -24,6 +24,11 @@ pub fn formula_tables()
 /// The table of a word is the sum of 2^i times the table of its net i, and is added up from the lowest on.
 pub fn word_tables()
     ensures { WordTables }
+{}
+
+/// A function of which the top variable is replaced by p is its low half and p times the difference of its halves.
+pub fn top_variable_replaced()
+    ensures { TopVariableReplaced }
 {}
 
 /// The first difference of two tables is none exactly where they are the same, and else both entries at the

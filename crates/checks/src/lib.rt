@@ -12,7 +12,7 @@ mod verdict;
 
 pub use laws::{
     first_difference_found, formula_tables, gate_tables, input_tables, sides_are_over,
-    walk_finds_first, word_tables,
+    top_variable_replaced, walk_finds_first, word_tables,
 };
 pub use method::Method;
 pub use verdict::Verdict;

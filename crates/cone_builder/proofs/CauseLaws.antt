@@ -25,7 +25,8 @@ use Rattle.cone_builder.specs.declared.build_error.BuildError.{BuildError}
 use Rattle.cone_builder.specs.declared.build_error.BuildError.TheVariants as error
 use Rattle.cone_builder.specs.Sides.{build_error_of}
 use Rattle.cone_builder.specs.Built.{AreBuilt, AreGates, AreVariables, ComeAfter, ReadsBuilt, is_marked, or_listed}
-use Rattle.cone_builder.specs.Causes.{limit_met, Includes, net_work}
+use Rattle.checks.specs.Forward.{net_work}
+use Rattle.cone_builder.specs.Causes.{limit_met, Includes}
 use Rattle.cone_builder.proofs.BuiltLaws.{gathered_stand, still_built}
 use Rattle.cone_builder.proofs.GateLaws.{GatesSoFar, is_input}
 use Rattle.cone_builder.proofs.InputLaws.{InputsSoFar}

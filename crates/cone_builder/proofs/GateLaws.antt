@@ -17,7 +17,8 @@ use Rattle.std.specs.Prelude.{Ok}
 use Rattle.tables.specs.Pieces.{Piece}
 use Rattle.diagram.specs.Causes.{Causes}
 use Rattle.diagram.proofs.CauseLaws.{causes_nothing}
-use Rattle.cone_builder.specs.Causes.{Includes, net_work}
+use Rattle.checks.specs.Forward.{net_work}
+use Rattle.cone_builder.specs.Causes.{Includes}
 use Rattle.word_apply.specs.Applied.{AreEdges, IsGateOf}
 use Rattle.cone_builder.specs.Built.{AreBuilt, AreGates, ComeAfter, ReadsBuilt, or_listed}
 use Rattle.cone_builder.proofs.BuiltLaws.{one_more_built, fewer_built, gathered_stand}

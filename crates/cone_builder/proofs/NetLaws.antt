@@ -23,7 +23,8 @@ use Rattle.spec_lang.proofs.Naming.{named_net_from}
 use Rattle.spec_lang.proofs.Placed.{place_in-at}
 use Rattle.tables.proofs.TableLaws.{both_halves}
 use Rattle.tables.specs.Table.{Table, halves, constant_table}
-use Rattle.checks.specs.Sides.{input_table, net_table}
+use Rattle.checks.specs.Sides.{net_table}
+use Rattle.tables.specs.Table as tables
 use Rattle.checks.specs.Work.{gate_table}
 use Rattle.checks.proofs.GateTables.{gate_tables}
 use Rattle.checks.proofs.InputTables.{input_tables}
@@ -37,7 +38,7 @@ use Rattle.cone_builder.proofs.GateLaws.{reads_some}
 
 -- ---- the variables
 lifted_input : (n level : ℕ) → level < n →
-    lifted level (halves (constant_table (n - (level + 1)) (pos 0)) (constant_table (n - (level + 1)) (pos 1))) ≡ input_table n level
+    lifted level (halves (constant_table (n - (level + 1)) (pos 0)) (constant_table (n - (level + 1)) (pos 1))) ≡ tables.variable_table n level
 lifted_input zero level low = absurd (omega arith)
 lifted_input (suc n) zero low =
     let same : suc n - (0 + 1) ≡ n = omega arith in
@@ -47,7 +48,7 @@ lifted_input (suc n) (suc level) low =
     let rest = ap (λ (k : ℕ). lifted level (halves (constant_table k (pos 0)) (constant_table k (pos 1)))) same ∙ lifted_input n level (omega arith) in
     both_halves rest rest
 
-variable_is_input : (v : View) (level : ℕ) → level < length v.letters → variable_table v level ≡ input_table (length v.letters) level
+variable_is_input : (v : View) (level : ℕ) → level < length v.letters → variable_table v level ≡ tables.variable_table (length v.letters) level
 variable_is_input v level low =
     ap (λ (k : ℕ). lifted level (halves (constant_table k (pos 0)) (constant_table k (pos 1)))) (length-drop (level + 1) v.letters) ∙ lifted_input (length v.letters) level low
 
@@ -63,8 +64,8 @@ are_variables c s v over good letters = λ level net at.
     let input : net < input_count c = rw (← over.inputs) ((good.order.each_input net).0 has) in
     let many : length v.letters ≡ length s.order = ap length letters ∙ good.one_letter_each in
     let also : level < length v.letters = omega (arith, low, many) in
-    input_tables c s net input ∙ ap (input_table (length s.order)) (place_in-at s.order level net good.order.no_input_twice at)
-    ∙ sym (variable_is_input v level also ∙ ap (λ (n : ℕ). input_table n level) many)
+    input_tables c s net input ∙ ap (tables.variable_table (length s.order)) (place_in-at s.order level net good.order.no_input_twice at)
+    ∙ sym (variable_is_input v level also ∙ ap (λ (n : ℕ). tables.variable_table n level) many)
 
 -- ---- the gates
 gates_at : (c : Circuit) (s : Specification) (net : ℕ) (o : Option Gate) → IsSound c → IsAccepted c → gate_of c net ≡ o →

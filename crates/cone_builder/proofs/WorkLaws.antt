@@ -18,7 +18,7 @@ use Rattle.spec_lang.specs.WellFormed.{IsOver, IsWellFormed}
 use Rattle.spec_lang.proofs.Naming.{filter-has, net_of_word_named}
 use Rattle.tables.specs.Table.{Table}
 use Rattle.tables.specs.Pieces.{Piece, pieces}
-use Rattle.checks.specs.Forward.{building_work, gate_work_of, input_work, word_work_of}
+use Rattle.checks.specs.Forward.{building_work, cone_work, input_work, net_work, word_work_of}
 use Rattle.checks.specs.FormulaWork.{formula_work}
 use Rattle.checks.specs.Sides.{net_table, side}
 use Rattle.checks.specs.Work.{word_work}
@@ -28,7 +28,7 @@ use Rattle.diagram.specs.Causes.{Causes}
 use Rattle.diagram.specs.View.{View, Keeps}
 use Rattle.word_apply.specs.Applied.{CausesOfAll, formula_table}
 use Rattle.cone_builder.specs.Built.{AreBuilt, AreGates, AreVariables, ComeAfter, NetsAreBuilt, is_marked, or_listed}
-use Rattle.cone_builder.specs.Causes.{Includes, net_work}
+use Rattle.cone_builder.specs.Causes.{Includes}
 use Rattle.cone_builder.proofs.CauseLaws.{causes_included, causes_on}
 use Rattle.cone_builder.proofs.NetLaws.{are_gates, are_variables, come_after, if_some_at, if_some_from}
 use Rattle.cone_builder.proofs.SideLaws.{named_are_built, side_caused}
@@ -58,7 +58,7 @@ included_on ps qs rs outer inner = λ p has. outer p (inner p has)
 -- the five parts of the work
 pub record HasParts (ps : List Piece) (c : Circuit) (s : Specification) (check : Check) : Type 0 where
   pub inputs : Includes ps (input_work c s check)
-  pub gates : Includes ps (flat_map (gate_work_of c s) (cone c (nets_named s check)))
+  pub gates : Includes ps (cone_work c s check)
   pub words : Includes ps (flat_map (word_work_of c s) (words_of_check check))
   pub left : Includes ps (formula_work s.letters 0 (side c s) check.left)
   pub right : Includes ps (formula_work s.letters 0 (side c s) check.right)
@@ -66,7 +66,7 @@ pub record HasParts (ps : List Piece) (c : Circuit) (s : Specification) (check :
 pub has_parts : (c : Circuit) (s : Specification) (check : Check) → HasParts (building_work c s check) c s check
 has_parts c s check =
     let a = input_work c s check in
-    let b = flat_map (gate_work_of c s) (cone c (nets_named s check)) in
+    let b = cone_work c s check in
     let d = flat_map (word_work_of c s) (words_of_check check) in
     let l = formula_work s.letters 0 (side c s) check.left in
     let r = formula_work s.letters 0 (side c s) check.right in
@@ -121,14 +121,14 @@ IntoCauses c v w order marks gates r =
 pub nets_caused : {X : Type 0} (c : Circuit) (s : Specification) (check : Check) (named gates : List ℕ) (marks : List Bool) (v w : View) (r : Result X Limit) (ps : List Piece) →
     IsOver c s → IsWellFormed s → IsSound c → IsAccepted c → v.letters ≡ s.letters → named ≡ nets_named s check →
     ((n : ℕ) → n < net_count c → bit_of marks n ≡ is_in_cone c named n) → gates ≡ cone c named → IntoCauses c v w s.order marks gates r →
-    Includes ps (input_work c s check) → Includes ps (flat_map (gate_work_of c s) (cone c (nets_named s check))) → Causes v w ps r
+    Includes ps (input_work c s check) → Includes ps (cone_work c s check) → Causes v w ps r
 nets_caused c s check named gates marks v w r ps over good sound accepted letters same tells cone_is call inputs works =
     call (net_table c s) ps (are_variables c s v over good letters) (are_gates c s sound accepted) (come_after c s named gates marks over good accepted tells cone_is)
     (λ net marked. input_included c s check named marks ps net over good same tells inputs marked)
     (λ net has.
     subst (λ ds. Includes ps (net_work c ds (net_table c s) net)) (sym letters)
-    (included_on ps (flat_map (gate_work_of c s) (cone c (nets_named s check))) (gate_work_of c s net) works
-    (flat_map-includes (gate_work_of c s) (cone c (nets_named s check)) net
+    (included_on ps (cone_work c s check) (net_work c s.letters (net_table c s) net) works
+    (flat_map-includes (net_work c s.letters (net_table c s)) (cone c (nets_named s check)) net
     (subst (λ (ns : List ℕ). Contains ns net) (cone_is ∙ ap (cone c) same) has))))
 
 -- ---- words

@@ -1,15 +1,7 @@
 -- Why the building of a check's sides gives up, and which nodes it makes.
-use Rattle.std.specs.Prelude.{◌≡◌, ℕ, List, [], ◌∷◌, ◌++◌, Result, Ok, Err, Contains, map, refl}
-use Rattle.std.specs.Option.{option_map_or}
+use Rattle.std.specs.Prelude.{◌≡◌, ℕ, List, ◌++◌, Result, Ok, Err, Contains, refl}
 use Rattle.std.proofs.lemmas.List.Elements.{Contains-append_right}
-use Rattle.circuits.specs.Circuit.{Circuit, gate_of}
-use Rattle.circuits.specs.Examples.{half}
-use Rattle.word_base.specs.declared.decomp.Decomp.{Decomp}
-use Rattle.word_base.specs.declared.decomp.Decomp.TheVariants.{P}
-use Rattle.tables.specs.Table.{Table}
-use Rattle.tables.specs.Pieces.{Piece, mul_work}
-use Rattle.checks.specs.Sides.{input_table}
-use Rattle.checks.specs.Work.{gate_work}
+use Rattle.tables.specs.Pieces.{Piece}
 use Rattle.diagram.specs.declared.builder.Limit.{Limit}
 use Rattle.diagram.specs.declared.builder.Limit.TheVariants as limit
 use Rattle.cone_builder.specs.declared.build_error.BuildError.{BuildError}
@@ -34,15 +26,3 @@ Includes ps qs = (p : Piece) → Contains qs p → Contains ps p
 
 includes_the_end : (ps qs : List Piece) → Includes (ps ++ qs) qs
 includes_the_end ps qs = λ p has. Contains-append_right ps qs p has
-
--- the work of a net's gate, from the tables of the nets
-abbrev pub net_work : Circuit → List Decomp → (ℕ → Table) → ℕ → List Piece
-net_work c letters table net = option_map_or (λ gate. gate_work gate.word letters 0 (map table gate.inputs)) (gate_of c net) []
-
--- the AND of the half adder multiplies the variables that it reads
-half-carry_work : net_work half (P ∷ P ∷ []) (input_table 2) 3 ≡ mul_work (P ∷ P ∷ []) 0 (input_table 2 0) (input_table 2 1)
-half-carry_work = refl
-
--- an input has no gate
-half-input_work : net_work half (P ∷ P ∷ []) (input_table 2) 0 ≡ []
-half-input_work = refl

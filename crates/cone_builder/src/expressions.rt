@@ -1,14 +1,12 @@
-ghost use Rattle.std.specs.Prelude.{◌≡◌, ℕ, ◌<◌, ◌≤◌, true, List, [], ◌∷◌, length, flat_map, All, Contains, IfOk, OnOk, IfSome, Some, slice_get};
-ghost use Rattle.checks.specs.Forward.{building_work, gate_work_of, input_work};
+ghost use Rattle.std.specs.Prelude.{◌≡◌, ℕ, ◌<◌, ◌≤◌, true, List, [], ◌∷◌, length, All, Contains, IfOk, OnOk, IfSome, Some, slice_get};
+ghost use Rattle.checks.specs.Forward.{building_work, cone_work, input_work, net_work};
 ghost use Rattle.cone_builder.specs.Built.{AreBuilt, AreGates, AreVariables, ComeAfter, NetsAreBuilt, is_marked, or_listed};
-ghost use Rattle.cone_builder.specs.Causes.{Includes, limit_met, net_work};
+ghost use Rattle.cone_builder.specs.Causes.{Includes, limit_met};
 ghost use Rattle.cone_builder.specs.Sides.{AreSides};
 ghost use Rattle.diagram.specs.Causes.{Causes};
 ghost use Rattle.diagram.specs.View.{View, Keeps};
-ghost use Rattle.circuits.specs.Circuit.{IsGate, input_count, net_count};
-ghost use Rattle.circuits.specs.Cone.{cone};
-ghost use Rattle.circuits.specs.Sound.{IsSound};
-ghost use Rattle.spec_lang.specs.Named.{nets_named};
+ghost use Rattle.netlist.specs.Circuit.{IsGate, input_count, net_count};
+ghost use Rattle.netlist.specs.Nets.{IsSound};
 ghost use Rattle.spec_lang.specs.Specification.{Check};
 ghost use Rattle.spec_lang.specs.WellFormed.{IsOver};
 ghost use Rattle.tables.specs.Pieces.{Piece, pieces};
@@ -74,7 +72,7 @@ fn build_nets(
     ensures keeps { Keeps builder.old builder.new }
     ensures built { IfOk result (λ edges. NetsAreBuilt netlist.now spec.now check builder.new edges.items) }
     ensures causes { (sides : Check) (ps : List Piece) → slice_get spec.now.checks check ≡ Some sides → Includes ps (input_work netlist.now spec.now sides) →
-        Includes ps (flat_map (gate_work_of netlist.now spec.now) (cone netlist.now (nets_named spec.now sides))) → Causes builder.old builder.new ps (limit_met result) }
+        Includes ps (cone_work netlist.now spec.now sides) → Causes builder.old builder.new ps (limit_met result) }
 {
     let count = netlist.inputs() as usize + netlist.gates() as usize;
     let named = spec.named(check)?;

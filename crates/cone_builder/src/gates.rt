@@ -1,6 +1,7 @@
 ghost use Rattle.std.specs.Prelude.{◌≡◌, ℕ, ◌<◌, Bool, List, [], ◌∷◌, length, map, All, Contains, OnOk, slice_index_or};
 ghost use Rattle.cone_builder.specs.Built.{AreBuilt, AreGates, ComeAfter, ReadsBuilt, or_listed};
-ghost use Rattle.cone_builder.specs.Causes.{limit_met, Includes, net_work};
+ghost use Rattle.checks.specs.Forward.{net_work};
+ghost use Rattle.cone_builder.specs.Causes.{limit_met, Includes};
 ghost use Rattle.diagram.specs.Causes.{Causes};
 ghost use Rattle.diagram.specs.View.{View, Keeps};
 ghost use Rattle.kind_laws.specs.declared.edge.Edge.{Edge};

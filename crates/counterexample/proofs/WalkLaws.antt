@@ -26,7 +26,7 @@ abbrev TellsSame : View → Edge → Edge → Bool → Type 0
 TellsSame v a b same = (l : ℕ) (t u : Table) → StandsAt v l t a → StandsAt v l u b → IsTrue same ↔ (t ≡ u)
 
 abbrev bits_after : List Decomp → Table → Table → Bool → List Bool
-bits_after ds t u same = if same then true ∷ walk_bits ds (part1 P t) (part1 P u) else false ∷ walk_bits ds (part0 P t) (part0 P u)
+bits_after ds t u same = same ∷ walk_bits ds (if same then part1 P t else part0 P t) (if same then part1 P u else part0 P u)
 
 -- the walk turns as the test of the low parts tells
 turns : (v : View) (level : ℕ) (left right left_low left_high right_low right_high : Edge) (same : Bool) →

@@ -87,6 +87,12 @@ place_of n (true ∷ bits) = place_of (n + n + 1) bits
 abbrev pub constant_table : ℕ → ℤ → Table
 constant_table n c = tabulate n (λ bits. c)
 
+-- the table over so many levels of the variable of one of them, counted from the top; 0 everywhere past the last level
+abbrev pub variable_table : ℕ → ℕ → Table
+variable_table zero level = entry (pos 0)
+variable_table (suc n) zero = halves (constant_table n (pos 0)) (constant_table n (pos 1))
+variable_table (suc n) (suc level) = halves (variable_table n level) (variable_table n level)
+
 abbrev ramp : Table
 ramp = halves (halves (entry (pos 3)) (entry (pos 1))) (halves (entry (pos 4)) (entry (pos 6)))
 
@@ -96,6 +102,12 @@ ramp-entries = refl
 -- the bits of the third entry are 1 and 0
 ramp-tabulated : tabulate 2 (λ bits. pos (place_of 0 bits)) ≡ halves (halves (entry (pos 0)) (entry (pos 1))) (halves (entry (pos 2)) (entry (pos 3)))
 ramp-tabulated = refl
+
+second_variable : entries (variable_table 2 1) ≡ pos 0 ∷ pos 1 ∷ pos 0 ∷ pos 1 ∷ []
+second_variable = refl
+
+first_variable : entries (variable_table 2 0) ≡ pos 0 ∷ pos 0 ∷ pos 1 ∷ pos 1 ∷ []
+first_variable = refl
 
 ramp-moment : entries (part1 P ramp) ≡ pos 1 ∷ pos 5 ∷ []
 ramp-moment = refl

@@ -2,7 +2,8 @@ use Rattle.std.proofs.Common.{sym, subst, List}
 use Rattle.std.proofs.lemmas.Result.{on_ok_weaker}
 use Rattle.word_base.specs.declared.decomp.Decomp.{Decomp}
 use Rattle.cone_builder.specs.Built.{is_marked}
-use Rattle.cone_builder.specs.Causes.{Includes, limit_met, net_work}
+use Rattle.checks.specs.Forward.{net_work}
+use Rattle.cone_builder.specs.Causes.{Includes, limit_met}
 use Rattle.cone_builder.proofs.CauseLaws.{limit_refused, causes_on}
 use Rattle.cone_builder.proofs.expressions.build_into.Goals as goal
 
