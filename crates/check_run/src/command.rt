@@ -2,7 +2,7 @@ ghost use Rattle.std.specs.Prelude.{◌≡◌, ◌⊎◌, ℕ, ◌≤◌, map, I
 ghost use Rattle.check_run.specs.Halted.{IsHalted};
 ghost use Rattle.check_run.specs.Loaded.{FailsToRead};
 ghost use Rattle.check_run.specs.Run.{Accepts, Answers, MeetsNoLimit, PutsAll, PutsPart, Says, is_written};
-ghost use Rattle.netlist.specs.Circuit.{Circuit};
+ghost use Rattle.circuits.specs.Circuit.{Circuit};
 ghost use Rattle.spec_lang.specs.Specification.{Check, Specification};
 
 use crate::decide::decide;

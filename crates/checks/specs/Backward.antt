@@ -2,8 +2,8 @@
 -- top variable is replaced by its gate's polynomial, until inputs alone are left.
 use Rattle.std.specs.Prelude.{ℕ, ◌+◌, List, [], ◌∷◌, ◌++◌, map, reverse, flat_map, length, replicate, drop}
 use Rattle.std.specs.Option.{option_map_or}
-use Rattle.netlist.specs.Circuit.{Circuit, Gate, net_count, gate_of}
-use Rattle.netlist.specs.Cone.{cone}
+use Rattle.circuits.specs.Circuit.{Circuit, Gate, net_count, gate_of}
+use Rattle.circuits.specs.Cone.{cone}
 use Rattle.spec_lang.specs.Formula.{Formula}
 use Rattle.spec_lang.specs.Named.{words_named, nets_named, nets_of_side}
 use Rattle.spec_lang.specs.Placed.{place_in, placed}

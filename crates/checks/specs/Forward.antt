@@ -2,9 +2,9 @@
 use Rattle.std.specs.Prelude.{◌≡◌, ℕ, List, [], ◌∷◌, ◌++◌, map, filter, flat_map, if◌then◌else◌, refl}
 use Rattle.std.specs.List.{range_with_len}
 use Rattle.std.specs.Option.{option_map_or}
-use Rattle.netlist.specs.Circuit.{Circuit, input_count, gate_of}
-use Rattle.netlist.specs.Circuits.{half}
-use Rattle.netlist.specs.Cone.{cone, is_in_cone}
+use Rattle.circuits.specs.Circuit.{Circuit, input_count, gate_of}
+use Rattle.circuits.specs.Examples.{half}
+use Rattle.circuits.specs.Cone.{cone, is_in_cone}
 use Rattle.spec_lang.specs.Named.{nets_named, words_of_check}
 use Rattle.spec_lang.specs.Specification.{Check, Specification}
 use Rattle.spec_lang.specs.Value.{nets_of}

@@ -1,9 +1,9 @@
 -- The two sides of a check, as tables over the inputs in the order of the specification.
 use Rattle.std.specs.Prelude.{◌≡◌, ℕ, pos, [], ◌∷◌, length, refl}
-use Rattle.netlist.specs.Circuit.{Circuit}
-use Rattle.netlist.specs.Circuits.{half}
-use Rattle.netlist.specs.Polynomial.{number_of}
-use Rattle.netlist.specs.Valuation.{bit_of}
+use Rattle.circuits.specs.Circuit.{Circuit}
+use Rattle.circuits.specs.Examples.{half}
+use Rattle.circuits.specs.Polynomial.{number_of}
+use Rattle.circuits.specs.Valuation.{bit_of}
 use Rattle.spec_lang.specs.Formula.{Formula}
 use Rattle.spec_lang.specs.Placed.{net_values}
 use Rattle.spec_lang.specs.Specification.{Specification, half_adder, half_adder_check}

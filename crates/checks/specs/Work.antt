@@ -1,9 +1,9 @@
 -- The tables that gates, words and the walk go through.
 use Rattle.std.specs.Prelude.{◌≡◌, ℕ, ◌+◌, ◌*◌, ℤ, pos, Bool, true, false, List, [], ◌∷◌, ◌++◌, map, flat_map, fold, if◌then◌else◌, refl}
 use Rattle.std.specs.List.{enumerate_from}
-use Rattle.netlist.specs.Polynomial.{step, is_negated}
-use Rattle.netlist.specs.declared.gate_word.GateWord.{GateWord}
-use Rattle.netlist.specs.declared.gate_word.GateWord.TheVariants.{And, Nand, Or, Nor, Xor, Xnor, Not, Buff}
+use Rattle.circuits.specs.Polynomial.{step, is_negated}
+use Rattle.circuits.specs.declared.gate_word.GateWord.{GateWord}
+use Rattle.circuits.specs.declared.gate_word.GateWord.TheVariants.{And, Nand, Or, Nor, Xor, Xnor, Not, Buff}
 use Rattle.tables.specs.Table.{Table, entry, halves, zip_with, plus, minus, times, opposite, multiple, part0, part1, same_table}
 use Rattle.tables.specs.Pieces.{Piece, pieces, like, mul_work}
 use Rattle.word_base.specs.declared.decomp.Decomp.{Decomp}

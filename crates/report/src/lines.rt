@@ -1,6 +1,6 @@
 ghost use Rattle.std.specs.Prelude.{◌≡◌, ◌<◌, ◌++◌, map, codes, length, All, IfOk, OnOk, string_bytes};
 ghost use Rattle.std.specs.Fmt.{signed_decimal};
-ghost use Rattle.netlist.specs.Circuit.{net_count, name_of};
+ghost use Rattle.circuits.specs.Circuit.{net_count, name_of};
 ghost use Rattle.report.specs.Lines.{assignment, digit, verdict_line, verdict_text};
 
 use checks::Verdict;

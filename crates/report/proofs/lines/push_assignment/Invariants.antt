@@ -1,7 +1,7 @@
 use Rattle.std.proofs.Common.{◌≡◌, ◌++◌, map, take}
 use Rattle.std.specs.String.{string_bytes}
 use Rattle.report.specs.Lines.{assignment}
-use Rattle.netlist.specs.Circuit.{name_of}
+use Rattle.circuits.specs.Circuit.{name_of}
 use Rattle.report.proofs.lines.push_assignment.Given as goal
 
 abbrev pub invariant-loop-place : goal.invariant-loop-place
