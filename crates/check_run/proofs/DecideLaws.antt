@@ -1,7 +1,7 @@
 -- From the edges of both sides to the verdict.
 use Rattle.std.proofs.Common.{◌≡◌, refl, sym, ◌∙◌, ap, subst, ℕ, zero, suc, ℤ, Bool, true, false, List, [], ◌∷◌, length}
 use Rattle.std.specs.Prelude.{◌&&◌, ◌^◌, IfSome, Option, Some, None, slice_get, unsigned_abs}
-use Rattle.std.proofs.lemmas.Bool.{ltb-true}
+use Rattle.std.proofs.lemmas.Bool.{and_parts, ltb-true}
 use Rattle.std.specs.Option.{option_map_or}
 use Rattle.word_base.specs.declared.kind_name.KindName.TheVariants.{Hdd}
 use Rattle.word_base.specs.Range.{InRange}
@@ -12,7 +12,6 @@ use Rattle.spec_lang.specs.Specification.{Check, Specification, Word}
 use Rattle.spec_lang.specs.Value.{all_in_range, value}
 use Rattle.spec_lang.proofs.Values.{whole_in_range}
 use Rattle.tables.specs.Table.{tabulate}
-use Rattle.tables.proofs.TreeLaws.{and_left, and_right}
 use Rattle.checks.specs.Answer.{Difference, answer, entry_at, first_difference}
 use Rattle.checks.specs.Limits.{over, short}
 use Rattle.checks.specs.declared.method.Method.TheVariants.{Forward}
@@ -80,8 +79,8 @@ different_decided c s place check d left right at is found at_is fits left_is ri
     let r : right ≡ d.right =
     right_is ∙ ap (λ b. value s.words (net_values c s b) check.right) at_is
     ∙ sym (entry_of_tabulate n (λ b. value s.words (net_values c s b) check.right) bits first.full) ∙ first.right in
-    let low : all_in_range s.words (net_values c s at) check.left ≡ true = and_left (all_in_range s.words (net_values c s at) check.left) (all_in_range s.words (net_values c s at) check.right) fits in
-    let high : all_in_range s.words (net_values c s at) check.right ≡ true = and_right (all_in_range s.words (net_values c s at) check.left) (all_in_range s.words (net_values c s at) check.right) fits in
+    let low : all_in_range s.words (net_values c s at) check.left ≡ true = (and_parts (all_in_range s.words (net_values c s at) check.left) (all_in_range s.words (net_values c s at) check.right) fits).0 in
+    let high : all_in_range s.words (net_values c s at) check.right ≡ true = (and_parts (all_in_range s.words (net_values c s at) check.left) (all_in_range s.words (net_values c s at) check.right) fits).1 in
     decided_at c s place check (Different left right at) is
     (value_in_range s.words (net_values c s at) check.left left left_is low, value_in_range s.words (net_values c s at) check.right right right_is high, ap (λ x. Different x right at) l ∙ ap (λ x. Different d.left x at) r ∙ ap (Different d.left d.right) at_is ∙ answer_of c s check (Some d) found)
 

@@ -157,10 +157,10 @@ shannon-forward_walk = refl
 abbrev never_both : Check
 never_both = record { left = sum (great (word 0)) (great (word 1)); right = great (number (pos 1)) }
 
-never_both-forward : over Hdd Forward inverter (inverted never_both) never_both ≡ false
+never_both-forward : over Evbdd Forward inverter (inverted_at_shannon never_both) never_both ≡ false
 never_both-forward = refl
 
-never_both-backward : over Hdd Backward inverter (inverted never_both) never_both ≡ true
+never_both-backward : over Evbdd Backward inverter (inverted_at_shannon never_both) never_both ≡ true
 never_both-backward = refl
 
 -- y - 2 == 0 - a

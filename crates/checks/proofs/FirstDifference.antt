@@ -2,13 +2,13 @@
 use Rattle.std.specs.Prelude.{◌≡◌, ℕ, zero, suc, ℤ, ◌-ℤ◌, Bool, true, false, List, [], ◌∷◌, length, Option, Some, None, if◌then◌else◌, refl}
 use Rattle.std.specs.Ordering.{int_eq}
 use Rattle.std.proofs.Common.{sym, ◌∙◌, ap, subst, arith}
-use Rattle.std.proofs.lemmas.Bool.{false≢true}
+use Rattle.std.proofs.lemmas.Bool.{and_from, and_parts, false≢true}
 use Rattle.std.proofs.lemmas.Bool.Decides.{Decides-int_eq}
 use Rattle.std.proofs.lemmas.Int.{ints}
 use Rattle.word_base.specs.declared.decomp.Decomp.{Decomp}
 use Rattle.word_base.specs.declared.decomp.Decomp.TheVariants.{S, P, N}
 use Rattle.tables.proofs.TableLaws.{both_halves, plus-minus, IsOver-zip_with}
-use Rattle.tables.proofs.TreeLaws.{and_left, and_right, both_true, int_eq-same, int_eq-refl}
+use Rattle.tables.proofs.TreeLaws.{int_eq-same, int_eq-refl}
 use Rattle.tables.specs.Table.{Table, entry, halves, IsOver, plus, minus, same_table}
 use Rattle.checks.specs.Answer.{Difference, IsFirstDifference, IsBefore, with_bit, first_of_halves, first_difference, entry_at}
 use Rattle.checks.specs.Laws.{FirstDifferenceFound, WalkFindsFirst}
@@ -18,13 +18,13 @@ use Rattle.checks.specs.Work.{walk_bits}
 pub same_table-same : (t u : Table) → same_table t u ≡ true → t ≡ u
 same_table-same (entry x) (entry y) h = ap entry (int_eq-same x y h)
 same_table-same (halves a b) (halves c d) h =
-    both_halves (same_table-same a c (and_left _ _ h)) (same_table-same b d (and_right (same_table a c) _ h))
+    both_halves (same_table-same a c (and_parts _ _ h).0) (same_table-same b d (and_parts (same_table a c) _ h).1)
 same_table-same (entry x) (halves c d) h = cc
 same_table-same (halves a b) (entry y) h = cc
 
 pub same_table-refl : (t : Table) → same_table t t ≡ true
 same_table-refl (entry x) = int_eq-refl x
-same_table-refl (halves a b) = both_true _ _ (same_table-refl a) (same_table-refl b)
+same_table-refl (halves a b) = and_from _ _ (same_table-refl a) (same_table-refl b)
 
 -- ---- no difference
 abbrev at_entries : Bool → ℤ → ℤ → Option Difference

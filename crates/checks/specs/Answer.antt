@@ -32,6 +32,7 @@ first_difference (halves a b) (halves c d) = first_of_halves (first_difference a
 first_difference (entry x) (halves c d) = None
 first_difference (halves a b) (entry y) = None
 
+-- ---- for the law that what is found is the first difference
 -- the entry at the bits, the top level's first
 abbrev pub entry_at : Table → List Bool → ℤ
 entry_at (entry x) bits = x
@@ -56,6 +57,7 @@ pub record IsFirstDifference (n : ℕ) (t u : Table) (d : Difference) : Type 0 w
   pub differ : d.left ≡ d.right → ⊥
   pub same_before : (bits : List Bool) → length bits ≡ n → IsBefore bits d.at → entry_at t bits ≡ entry_at u bits
 
+-- ---- the answer
 -- the answer to a check that meets no limit: the sides are equal, or they differ, with both values and the bits of the
 -- inputs from the top level down
 abbrev pub answer : Circuit → Specification → Check → Verdict

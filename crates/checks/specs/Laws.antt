@@ -1,4 +1,4 @@
--- The laws of these definitions. Each is the contract of a function of src/laws.rt.
+-- The laws of these definitions, each the contract of a function of src/laws.rt. What a run answers is defined without them.
 use Rattle.std.specs.Prelude.{◌≡◌, ℕ, ◌+◌, ◌<◌, ◌^◌, ℤ, pos, List, [], ◌∷◌, ◌++◌, map, length, take, slice_index_or, Some, None}
 use Rattle.circuits.specs.Circuit.{Circuit, Gate, input_count, gate_of}
 use Rattle.circuits.specs.Order.{IsAccepted}

@@ -59,6 +59,10 @@ abbrev pub passes : Method → ℕ → ℕ
 passes Forward workers = workers
 passes Backward workers = if workers == 1 then 1 else 2
 
--- the check is short of cells: each pass but one may hold a chunk of 256 cells
+-- the cells that a pass takes at a time
+abbrev pub chunk : ℕ
+chunk = 256
+
+-- the check is short of cells: each pass but one may hold a chunk that it does not fill
 abbrev pub short : KindName → Method → ℕ → ℕ → Circuit → Specification → Check → Bool
-short k m workers cells c s check = nat_le cells (need k m c s check + 256 * (passes m workers - 1))
+short k m workers cells c s check = nat_le cells (need k m c s check + chunk * (passes m workers - 1))

@@ -125,7 +125,7 @@ abbrev pub steps : List Decomp → Table → Table → List Step
 steps [] a b = []
 steps (d ∷ ds) a b = let first = step_at d a b in first ∷ steps ds first.left first.right
 
--- the bits by which the walk goes
+-- the bits by which the walk goes, for the law that these are those of the first difference
 abbrev pub walk_bits : List Decomp → Table → Table → List Bool
 walk_bits ds a b = map (λ s. s.bit) (steps ds a b)
 

@@ -25,51 +25,26 @@ fn different(left: i128, right: i128, at: Assign) -> Result<Verdict, Fail> {
 }
 
 #[test]
-fn each_verdict_has_its_line(rt: HostRuntime) -> Result<(), Fail> {
+fn a_line_has_both_values_and_each_bit(rt: HostRuntime) -> Result<(), Fail> {
     let netlist = two_inputs(&rt);
     assert_eq!(rt; netlist.inputs(), 2);
     let alloc = rt.alloc();
-    let rows = [
-        (1u32, Verdict::Equal, "check 1 equal\n"),
-        (
-            1,
-            different(1, 2, two_bits(alloc, true, true)?)?,
-            "check 1 different left 1 right 2 at a=1 b=1\n",
-        ),
-        (
-            12,
-            different(-1, i128::MAX, two_bits(alloc, false, true)?)?,
-            "check 12 different left -1 right 170141183460469231731687303715884105727 at a=0 b=1\n",
-        ),
-        (3, Verdict::Overflow, "check 3 overflow\n"),
-        (1, Verdict::Full, "check 1 full\n"),
-    ];
-    for (number, verdict, text) in rows.iter() {
-        let written = line(alloc, *number, &netlist, &[0, 1], verdict)?;
-        assert_eq!(rt; written.as_str(), *text);
-    }
+    let verdict = different(-1, i128::MAX, two_bits(alloc, false, true)?)?;
+    let written = line(alloc, 12, &netlist, &[0, 1], &verdict)?;
+    assert_eq!(rt;
+        written.as_str(),
+        "check 12 different left -1 right 170141183460469231731687303715884105727 at a=0 b=1\n"
+    );
     Ok(())
 }
 
 #[test]
-fn each_refusal_has_its_line(rt: HostRuntime) -> Result<(), Fail> {
-    let duplicate = BenchFault {
+fn a_refusal_has_its_line(rt: HostRuntime) -> Result<(), Fail> {
+    let fault = BenchFault {
         line: 3,
         cause: BenchCause::DuplicateNet,
     };
-    let rows = [
-        (Refusal::Words, "refused words unbuilt\n"),
-        (Refusal::NetlistTooLong, "refused netlist too-long\n"),
-        (
-            Refusal::Netlist(duplicate),
-            "refused netlist 3 duplicate-net\n",
-        ),
-        (Refusal::SpecTooLong, "refused spec too-long\n"),
-        (Refusal::Spec, "refused spec unbuilt\n"),
-    ];
-    for (refusal, text) in rows.iter() {
-        let written = refusal_line(rt.alloc(), refusal)?;
-        assert_eq!(rt; written.as_str(), *text);
-    }
+    let written = refusal_line(rt.alloc(), &Refusal::Netlist(fault))?;
+    assert_eq!(rt; written.as_str(), "refused netlist 3 duplicate-net\n");
     Ok(())
 }

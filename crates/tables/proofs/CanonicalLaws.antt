@@ -1,6 +1,7 @@
 -- Canonical diagrams of any kind: of constants, of tables with given parts, of tables that a level does not split, and
 -- the parts of a canonical diagram.
 use Rattle.std.proofs.Common.{◌≡◌, refl, sym, ◌∙◌, ap, subst, ℕ, zero, suc, ◌+◌, ℤ, pos, List, [], ◌∷◌, true, length}
+use Rattle.std.proofs.lemmas.Bool.{and_parts}
 use Rattle.word_base.specs.Kind.{is_allowed}
 use Rattle.word_base.specs.declared.decomp.Decomp.{Decomp}
 use Rattle.word_base.specs.declared.decomp.Decomp.TheVariants.{S, P, N}
@@ -18,7 +19,6 @@ use Rattle.tables.proofs.Kronecker.{kronecker_rule}
 use Rattle.tables.proofs.Moment.{moment_rule}
 use Rattle.tables.proofs.KindLaws.{HasRule, canonical-over, canonical_stands, parts_undo_join, joins_skip}
 use Rattle.tables.proofs.TableLaws.{minus-self, part0-merged, part1-merged, IsOver-merged, IsOver-part0, IsOver-part1}
-use Rattle.tables.proofs.TreeLaws.{and_right}
 
 pub rule_of : (k : KindName) → HasRule k
 rule_of Evbdd = edge_valued_rule
@@ -27,7 +27,7 @@ rule_of Hdd = hybrid_rule
 rule_of KStarBmd = kronecker_rule
 
 pub allowed_below : (k : KindName) (d : Decomp) (ds : List Decomp) → are_allowed k (d ∷ ds) ≡ true → are_allowed k ds ≡ true
-allowed_below k d ds allowed = and_right (is_allowed k d) (are_allowed k ds) allowed
+allowed_below k d ds allowed = (and_parts (is_allowed k d) (are_allowed k ds) allowed).1
 
 -- the canonical diagrams of the parts can be joined
 pub parts_joinable : (k : KindName) (d : Decomp) (ds : List Decomp) (l : ℕ) (p q : Table) → are_allowed k (d ∷ ds) ≡ true →

@@ -1,6 +1,7 @@
 -- The joining rule of edge-valued binary decision diagrams.
 use Rattle.std.proofs.Common.{◌≡◌, refl, sym, ◌∙◌, ap, ℕ, ◌+◌, pos, ◌+ℤ◌, ◌-ℤ◌, List, ◌∷◌, true, arith}
 use Rattle.std.proofs.lemmas.Int.{ints}
+use Rattle.std.proofs.lemmas.Bool.{and_parts}
 use Rattle.word_base.specs.declared.decomp.Decomp.{Decomp}
 use Rattle.word_base.specs.declared.decomp.Decomp.TheVariants.{S, P, N}
 use Rattle.word_base.specs.declared.kind_name.KindName.TheVariants.{Evbdd}
@@ -10,7 +11,7 @@ use Rattle.tables.specs.Parts.{low_part, high_part}
 use Rattle.tables.specs.Meaning.{weighed, shape_table, table}
 use Rattle.tables.specs.Laws.{are_allowed, AreJoinable, IsSkip}
 use Rattle.tables.proofs.TableLaws.{both_halves, each-same, each-each}
-use Rattle.tables.proofs.TreeLaws.{same-same, same-eq, shape_table-at, and_right}
+use Rattle.tables.proofs.TreeLaws.{same-same, same-eq, shape_table-at}
 use Rattle.tables.proofs.KindLaws.{HasRule, no_extra, with_weights, low_part-at, high_part-at}
 
 skip_tells : (d : Decomp) (ds : List Decomp) (l : ℕ) (low high : Tree) → AreJoinable Evbdd d ds l low high → skips Evbdd d low high ≡ true → IsSkip Evbdd d low high
@@ -47,7 +48,7 @@ node_parts d ds l low high j =
     let root = weights low.root.weight (pos 0) in
     let at_low = weights (pos 0) (pos 0) in
     let at_high = weights (high.root.weight -ℤ low.root.weight) (pos 0) in
-    let below = and_right _ (are_allowed Evbdd ds) j.allowed in (
+    let below = (and_parts _ (are_allowed Evbdd ds) j.allowed).1 in (
       low_part-at Evbdd l root at_low at_high low.shape high.shape
           ∙ with_weights low low.root.weight (pos 0) refl (sym (no_extra Evbdd refl ds (l + 1) low below j.low_canonical)),
       high_part-at Evbdd d l root at_low at_high low.shape high.shape

@@ -1,5 +1,6 @@
 -- The content of a table and that of its parts, and that the parts of a table that fits do.
 use Rattle.std.proofs.Common.{◌≡◌, refl, sym, ◌∙◌, ap, ℕ, zero, suc, ◌∷◌, ◌&&◌}
+use Rattle.std.proofs.lemmas.Bool.{and_parts}
 use Rattle.integers.specs.Gcd.{gcd}
 use Rattle.integers.proofs.GcdLaws.{gcd_comm, gcd_exchange, gcd-sub}
 use Rattle.word_base.specs.declared.decomp.Decomp.TheVariants.{S, P, N}
@@ -8,7 +9,6 @@ use Rattle.tables.specs.Table.{Table, entry, halves, IsOver, minus, part0, part1
 use Rattle.tables.specs.Canonical.{canonical}
 use Rattle.tables.specs.Fits.{weights_in_range, difference_in_range, fits, content}
 use Rattle.tables.specs.Laws.{ContentOfParts, FitsParts}
-use Rattle.tables.proofs.TreeLaws.{and_left, and_right}
 
 -- ---- content
 
@@ -38,6 +38,6 @@ fits_parts k d ds (halves lo hi) h =
     let p = part0 d (halves lo hi) in
     let q = part1 d (halves lo hi) in
     let near = difference_in_range k d (canonical k ds 1 p) (canonical k ds 1 q) in
-    let rest = and_right (weights_in_range (canonical k (d ∷ ds) 0 (halves lo hi)).root) (near && (fits k ds p && fits k ds q)) h in
-    let both = and_right near (fits k ds p && fits k ds q) rest in
-    (and_left (fits k ds p) (fits k ds q) both, and_right (fits k ds p) (fits k ds q) both)
+    let rest = (and_parts (weights_in_range (canonical k (d ∷ ds) 0 (halves lo hi)).root) (near && (fits k ds p && fits k ds q)) h).1 in
+    let both = (and_parts near (fits k ds p && fits k ds q) rest).1 in
+    and_parts (fits k ds p) (fits k ds q) both

@@ -1,7 +1,7 @@
 -- The laws of every kind, from the few facts that a kind proves of its own joining rule.
 use Rattle.std.proofs.Common.{◌≡◌, refl, sym, ◌∙◌, ap, subst, ℕ, suc, ◌+◌, ℤ, pos, ◌*ℤ◌, List, [], ◌∷◌, Bool, true, false, length, arith}
 use Rattle.std.specs.Prelude.{if◌then◌else◌}
-use Rattle.std.proofs.lemmas.Bool.{eq-eqb}
+use Rattle.std.proofs.lemmas.Bool.{and_parts, eq-eqb}
 use Rattle.std.proofs.lemmas.Int.{ints}
 use Rattle.std.proofs.Math.IntN.{one, *ℤ-one}
 use Rattle.word_base.specs.Kind.{is_allowed}
@@ -16,7 +16,7 @@ use Rattle.tables.specs.Meaning.{weighed, leaf_value, shape_table, table}
 use Rattle.tables.specs.Canonical.{canonical, IsCanonical}
 use Rattle.tables.specs.Laws.{are_allowed, ConstantsStand, ConstantsDiffer, LeavesAreConstants, AreJoinable, JoinHasParts, PartsUndoJoin, IsSkip, JoinsSkip, HasCanonicalParts, PartsAreCanonical, JoinOfParts, CanonicalTreesAgree, JoinsAreCanonical, CanonicalStands}
 use Rattle.tables.proofs.TableLaws.{both_halves, each-constant_table, minus-self, part0-merged, part1-merged, IsOver-part0, IsOver-part1, same_parts}
-use Rattle.tables.proofs.TreeLaws.{and_right, chosen, is_at, is_at-node_join, above_levels, IsOver-table, table-above}
+use Rattle.tables.proofs.TreeLaws.{chosen, is_at, is_at-node_join, above_levels, IsOver-table, table-above}
 
 -- What a kind proves of its own joining rule
 pub record HasRule (k : KindName) : Type 0 where
@@ -100,7 +100,7 @@ pub by_joins : (k : KindName) (Has : Tree → Type 0) → ((c : ℤ) → Has (co
     (ds : List Decomp) (l : ℕ) (t : Tree) → are_allowed k ds ≡ true → IsCanonical k ds l t → Has t
 by_joins k Has at_constant at_node [] l t allowed c = subst Has (sym c.1) (at_constant c.0)
 by_joins k Has at_constant at_node (d ∷ ds) l t allowed c =
-    let below = and_right (is_allowed k d) (are_allowed k ds) allowed in
+    let below = (and_parts (is_allowed k d) (are_allowed k ds) allowed).1 in
     let j : AreJoinable k d ds l c.0 c.1 = record { allowed = allowed; low_canonical = c.2; high_canonical = c.3 } in
     let low = by_joins k Has at_constant at_node ds (l + 1) c.0 below c.2 in
     let high = by_joins k Has at_constant at_node ds (l + 1) c.1 below c.3 in
@@ -242,7 +242,7 @@ module _ (k : KindName) (rule : HasRule k) where
   joins_are_canonical [] l t allowed c =
       c.1 ∙ sym (ap (canonical k [] l) (ap (table k [] l) c.1 ∙ constants_stand k [] l c.0))
   joins_are_canonical (d ∷ ds) l t allowed c =
-      let below = and_right (is_allowed k d) (are_allowed k ds) allowed in
+      let below = (and_parts (is_allowed k d) (are_allowed k ds) allowed).1 in
       let j : AreJoinable k d ds l c.0 c.1 = record { allowed = allowed; low_canonical = c.2; high_canonical = c.3 } in
       let parts = join_has_parts d ds l c.0 c.1 j in
       let joined = tjoin k d l c.0 c.1 in
@@ -268,7 +268,7 @@ module _ (k : KindName) (rule : HasRule k) where
   canonical_stands (d ∷ ds) l (entry x) allowed o = absurd o
   canonical_stands (d ∷ ds) l (halves lo hi) allowed o =
       let t = halves lo hi in
-      let below = and_right (is_allowed k d) (are_allowed k ds) allowed in
+      let below = (and_parts (is_allowed k d) (are_allowed k ds) allowed).1 in
       let low = canonical_stands ds (l + 1) (part0 d t) below (IsOver-part0 (length ds) d t o) in
       let high = canonical_stands ds (l + 1) (part1 d t) below (IsOver-part1 (length ds) d t o) in
       let j : AreJoinable k d ds l (canonical k ds (l + 1) (part0 d t)) (canonical k ds (l + 1) (part1 d t)) =

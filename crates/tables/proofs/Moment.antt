@@ -2,6 +2,7 @@
 use Rattle.std.proofs.Common.{◌≡◌, refl, sym, ◌∙◌, ap, ℕ, ◌+◌, ℤ, pos, ◌*ℤ◌, List, ◌∷◌, true, false, length}
 use Rattle.std.specs.Prelude.{int_div}
 use Rattle.std.specs.Ordering.{int_eq}
+use Rattle.std.proofs.lemmas.Bool.{and_parts}
 use Rattle.integers.specs.Gcd.{signed_gcd}
 use Rattle.integers.proofs.Ring.{*ℤ-distrib_left, *ℤ_assoc}
 use Rattle.integers.proofs.SignedGcd.{signed_gcd-times_first, signed_gcd-times_second, signed_gcd-is_zero}
@@ -15,7 +16,7 @@ use Rattle.tables.specs.Meaning.{shape_table, table}
 use Rattle.tables.specs.Canonical.{IsCanonical}
 use Rattle.tables.specs.Laws.{are_allowed, AreJoinable, IsSkip}
 use Rattle.tables.proofs.TableLaws.{IsOver-each, each-same, each-each, each-merged}
-use Rattle.tables.proofs.TreeLaws.{and_right, int_eq-same, int_eq-refl, IsOver-shape_table, shape_table-at}
+use Rattle.tables.proofs.TreeLaws.{int_eq-same, int_eq-refl, IsOver-shape_table, shape_table-at}
 use Rattle.tables.proofs.KindLaws.{HasRule, by_joins, no_extra, with_weights, low_part-at, high_part-at}
 
 -- an edge of weight 0 is the constant 0, since the weight of an edge to a node is a divisor of a high weight that is not 0
@@ -74,7 +75,7 @@ node_parts d ds l low high j =
     let g = signed_gcd low.root.weight high.root.weight (pos 0) in
     let v = int_div low.root.weight g in
     let w = int_div high.root.weight g in
-    let below = and_right _ (are_allowed StarBmd ds) j.allowed in (
+    let below = (and_parts _ (are_allowed StarBmd ds) j.allowed).1 in (
       low_part-at StarBmd l (weights g (pos 0)) (weights v (pos 0)) (weights w (pos 0)) low.shape high.shape
           ∙ with_weights low (g *ℤ v) (pos 0) (signed_gcd-times_first low.root.weight high.root.weight (pos 0))
           (sym (no_extra StarBmd refl ds (l + 1) low below j.low_canonical)),

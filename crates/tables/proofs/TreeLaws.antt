@@ -3,7 +3,7 @@
 use Rattle.std.proofs.Common.{◌≡◌, refl, sym, ◌∙◌, ap, ℕ, suc, ◌+◌, ◌<◌, ℤ, List, [], ◌∷◌, Bool, true, false, ◌&&◌, eqb, length, arith}
 use Rattle.std.specs.Prelude.{◌==◌, if◌then◌else◌}
 use Rattle.std.specs.Ordering.{int_eq}
-use Rattle.std.proofs.lemmas.Bool.{eqb-true, eq-eqb}
+use Rattle.std.proofs.lemmas.Bool.{and_from, and_parts, eq-eqb, eqb-true}
 use Rattle.std.proofs.lemmas.Bool.Decides.{Decides-int_eq}
 use Rattle.word_base.specs.declared.decomp.Decomp.{Decomp}
 use Rattle.word_base.specs.declared.kind_name.KindName.{KindName}
@@ -15,18 +15,6 @@ use Rattle.tables.specs.Canonical.{IsCanonical}
 use Rattle.tables.proofs.TableLaws.{IsOver-each, IsOver-merged}
 
 -- ---- tests
-pub and_left : (a b : Bool) → (a && b) ≡ true → a ≡ true
-and_left true b h = refl
-and_left false b h = h
-
-pub and_right : (a b : Bool) → (a && b) ≡ true → b ≡ true
-and_right true b h = h
-and_right false b h = cc
-
-pub both_true : (a b : Bool) → a ≡ true → b ≡ true → (a && b) ≡ true
-both_true true b h k = k
-both_true false b h k = cc
-
 -- a choice has what both of its values have, each where it is taken
 pub chosen : {A : Type 0} (Has : A → Type 0) (b : Bool) (x y : A) → (b ≡ true → Has x) → (b ≡ false → Has y) → Has (if b then x else y)
 chosen Has true x y p q = p refl
@@ -41,44 +29,44 @@ int_eq-refl x = (Decides-int_eq x x).1 refl
 -- ---- the same
 pub same_weights-same : (v w : Weights) → same_weights v w ≡ true → v ≡ w
 same_weights-same v w h =
-    let p : v.weight ≡ w.weight = int_eq-same v.weight w.weight (and_left _ _ h) in
-    let q : v.extra ≡ w.extra = int_eq-same v.extra w.extra (and_right _ _ h) in
+    let p : v.weight ≡ w.weight = int_eq-same v.weight w.weight (and_parts _ _ h).0 in
+    let q : v.extra ≡ w.extra = int_eq-same v.extra w.extra (and_parts _ _ h).1 in
     ap (λ (x : ℤ). weights x v.extra) p ∙ ap (λ (y : ℤ). weights w.weight y) q
 
 pub same_weights-refl : (w : Weights) → same_weights w w ≡ true
-same_weights-refl w = both_true _ _ (int_eq-refl w.weight) (int_eq-refl w.extra)
+same_weights-refl w = and_from _ _ (int_eq-refl w.weight) (int_eq-refl w.extra)
 
 pub same_shape-same : (s t : Shape) → same_shape s t ≡ true → s ≡ t
 same_shape-same leaf leaf h = refl
 same_shape-same leaf (node n c t d u) h = cc
 same_shape-same (node l a s b r) leaf h = cc
 same_shape-same (node l a s b r) (node n c t d u) h =
-    let h1 = and_right (eqb l n) (same_weights a c && (same_shape s t && (same_weights b d && same_shape r u))) h in
-    let h2 = and_right (same_weights a c) (same_shape s t && (same_weights b d && same_shape r u)) h1 in
-    let h3 = and_right (same_shape s t) (same_weights b d && same_shape r u) h2 in
-    let e : l ≡ n = eqb-true l n (and_left _ _ h) in
-    let f : a ≡ c = same_weights-same a c (and_left _ _ h1) in
-    let g : s ≡ t = same_shape-same s t (and_left _ _ h2) in
-    let i : b ≡ d = same_weights-same b d (and_left _ _ h3) in
-    let j : r ≡ u = same_shape-same r u (and_right (same_weights b d) (same_shape r u) h3) in
+    let h1 = (and_parts (eqb l n) (same_weights a c && (same_shape s t && (same_weights b d && same_shape r u))) h).1 in
+    let h2 = (and_parts (same_weights a c) (same_shape s t && (same_weights b d && same_shape r u)) h1).1 in
+    let h3 = (and_parts (same_shape s t) (same_weights b d && same_shape r u) h2).1 in
+    let e : l ≡ n = eqb-true l n (and_parts _ _ h).0 in
+    let f : a ≡ c = same_weights-same a c (and_parts _ _ h1).0 in
+    let g : s ≡ t = same_shape-same s t (and_parts _ _ h2).0 in
+    let i : b ≡ d = same_weights-same b d (and_parts _ _ h3).0 in
+    let j : r ≡ u = same_shape-same r u (and_parts (same_weights b d) (same_shape r u) h3).1 in
     cc
 
 pub same_shape-refl : (s : Shape) → same_shape s s ≡ true
 same_shape-refl leaf = refl
 same_shape-refl (node l a s b r) =
-    both_true _ _ (eq-eqb l l refl)
-    (both_true _ _ (same_weights-refl a)
-    (both_true _ _ (same_shape-refl s) (both_true _ _ (same_weights-refl b) (same_shape-refl r))))
+    and_from _ _ (eq-eqb l l refl)
+    (and_from _ _ (same_weights-refl a)
+    (and_from _ _ (same_shape-refl s) (and_from _ _ (same_weights-refl b) (same_shape-refl r))))
 
 pub same-same : (t u : Tree) → same t u ≡ true → t ≡ u
 same-same t u h =
-    let p : t.root ≡ u.root = same_weights-same t.root u.root (and_left _ _ h) in
-    let q : t.shape ≡ u.shape = same_shape-same t.shape u.shape (and_right (same_weights t.root u.root) _ h) in
+    let p : t.root ≡ u.root = same_weights-same t.root u.root (and_parts _ _ h).0 in
+    let q : t.shape ≡ u.shape = same_shape-same t.shape u.shape (and_parts (same_weights t.root u.root) _ h).1 in
     let join : Weights → Shape → Tree = λ w s. record { root = w; shape = s } in
     ap (λ (w : Weights). join w t.shape) p ∙ ap (λ (s : Shape). join u.root s) q
 
 pub same-refl : (t : Tree) → same t t ≡ true
-same-refl t = both_true _ _ (same_weights-refl t.root) (same_shape-refl t.shape)
+same-refl t = and_from _ _ (same_weights-refl t.root) (same_shape-refl t.shape)
 
 pub same-eq : (t u : Tree) → t ≡ u → same t u ≡ true
 same-eq t u e = sym (ap (λ (x : Tree). same x u) (sym e)) ∙ same-refl u

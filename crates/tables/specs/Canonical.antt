@@ -13,13 +13,13 @@ canonical k [] l (halves lo hi) = constant k (pos 0)
 canonical k (d ∷ ds) l (halves lo hi) =
     tjoin k d l (canonical k ds (l + 1) (part0 d (halves lo hi))) (canonical k ds (l + 1) (part1 d (halves lo hi)))
 
--- a tree that is made by joins from constants, over the levels from l on
+-- A tree that is made by joins from constants, over the levels from l on. The laws speak of it, and no definition of a run does
 abbrev pub IsCanonical : KindName → List Decomp → ℕ → Tree → Type 0
 IsCanonical k [] l t = (c : ℤ) × (t ≡ constant k c)
 IsCanonical k (d ∷ ds) l t =
     (low : Tree) × (high : Tree) × IsCanonical k ds (l + 1) low × IsCanonical k ds (l + 1) high × (t ≡ tjoin k d l low high)
 
--- a node is among the nodes of a shape
+-- a node is among the nodes of a shape; for the laws too
 abbrev pub IsNodeOf : Shape → Shape → Type 0
 IsNodeOf wanted leaf = ⊥
 IsNodeOf wanted (node l a s b r) = (wanted ≡ node l a s b r) ⊎ (IsNodeOf wanted s ⊎ IsNodeOf wanted r)

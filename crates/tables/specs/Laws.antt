@@ -1,5 +1,5 @@
 -- The laws of a kind, on trees with unbounded weights, and that its canonical diagrams are canonical; and what holds of
--- lists of nodes, of content, and of tables that fit.
+-- lists of nodes, of content, and of tables that fit. What a run answers and when it meets a limit is defined without them.
 use Rattle.std.specs.Prelude.{◌≡◌, ℕ, suc, ◌+◌, ℤ, pos, List, [], ◌∷◌, Bool, true, ◌&&◌, ◌⊎◌, ◌↔◌, length}
 use Rattle.std.specs.List.{IsDistinct}
 use Rattle.integers.specs.Gcd.{gcd}

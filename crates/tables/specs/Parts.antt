@@ -1,4 +1,4 @@
--- The two parts of a tree at a level.
+-- The two parts of a tree at a level. Only the laws of canonical diagrams and the contracts of builders speak of them.
 use Rattle.std.specs.Prelude.{◌≡◌, ℕ, ◌==◌, pos, negsuc, ◌+ℤ◌, ◌*ℤ◌, if◌then◌else◌, refl}
 use Rattle.word_base.specs.declared.decomp.Decomp.{Decomp}
 use Rattle.word_base.specs.declared.decomp.Decomp.TheVariants.{S, P, N}

@@ -78,12 +78,6 @@ abbrev pub tabulate : ℕ → (List Bool → ℤ) → Table
 tabulate zero f = entry (f [])
 tabulate (suc n) f = halves (tabulate n (λ bits. f (false ∷ bits))) (tabulate n (λ bits. f (true ∷ bits)))
 
--- the place of an entry, from its bits
-abbrev pub place_of : ℕ → List Bool → ℕ
-place_of n [] = n
-place_of n (false ∷ bits) = place_of (n + n) bits
-place_of n (true ∷ bits) = place_of (n + n + 1) bits
-
 abbrev pub constant_table : ℕ → ℤ → Table
 constant_table n c = tabulate n (λ bits. c)
 
@@ -99,8 +93,14 @@ ramp = halves (halves (entry (pos 3)) (entry (pos 1))) (halves (entry (pos 4)) (
 ramp-entries : entries ramp ≡ pos 3 ∷ pos 1 ∷ pos 4 ∷ pos 6 ∷ []
 ramp-entries = refl
 
--- the bits of the third entry are 1 and 0
-ramp-tabulated : tabulate 2 (λ bits. pos (place_of 0 bits)) ≡ halves (halves (entry (pos 0)) (entry (pos 1))) (halves (entry (pos 2)) (entry (pos 3)))
+-- the number whose binary digits follow those of another
+abbrev digits_after : ℕ → List Bool → ℕ
+digits_after n [] = n
+digits_after n (false ∷ bits) = digits_after (n + n) bits
+digits_after n (true ∷ bits) = digits_after (n + n + 1) bits
+
+-- the bits of an entry are the digits of its place: those of the third entry are 1 and 0
+ramp-tabulated : tabulate 2 (λ bits. pos (digits_after 0 bits)) ≡ halves (halves (entry (pos 0)) (entry (pos 1))) (halves (entry (pos 2)) (entry (pos 3)))
 ramp-tabulated = refl
 
 second_variable : entries (variable_table 2 1) ≡ pos 0 ∷ pos 1 ∷ pos 0 ∷ pos 1 ∷ []

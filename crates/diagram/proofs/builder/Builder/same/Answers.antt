@@ -1,7 +1,7 @@
 use Rattle.std.proofs.Common.{◌≡◌, ℕ, ℤ, true, ap, sym, ◌∙◌, subst, refl, vec_capacity, nat_eq, ◌&&◌}
 use Rattle.std.specs.Ordering.{int_eq}
-use Rattle.tables.proofs.TreeLaws.{and_left, and_right, both_true, int_eq-same, int_eq-refl}
-use Rattle.std.proofs.lemmas.Bool.{eqb-true, eq-eqb}
+use Rattle.tables.proofs.TreeLaws.{int_eq-same, int_eq-refl}
+use Rattle.std.proofs.lemmas.Bool.{and_from, and_parts, eq-eqb, eqb-true}
 use Rattle.kind_laws.specs.declared.edge.Edge.{Edge}
 use Rattle.diagram.specs.View.{View, IsGood}
 use Rattle.diagram.proofs.BuilderLaws.{same_tells}
@@ -10,13 +10,13 @@ use Rattle.diagram.proofs.builder.Builder.same.Goals as goal
 equal_edges : (a b : Edge) → (int_eq a.weight b.weight && nat_eq a.node b.node) ≡ true → a ≡ b
 equal_edges a b h =
     let make : ℤ → ℕ → Edge = λ w n. record { weight = w; node = n } in
-    ap (λ (w : ℤ). make w a.node) (int_eq-same a.weight b.weight (and_left _ _ h))
-    ∙ ap (λ (n : ℕ). make b.weight n) (eqb-true a.node b.node (and_right (int_eq a.weight b.weight) _ h))
+    ap (λ (w : ℤ). make w a.node) (int_eq-same a.weight b.weight (and_parts _ _ h).0)
+    ∙ ap (λ (n : ℕ). make b.weight n) (eqb-true a.node b.node (and_parts (int_eq a.weight b.weight) _ h).1)
 
 edges_equal : (a b : Edge) → a ≡ b → (int_eq a.weight b.weight && nat_eq a.node b.node) ≡ true
 edges_equal a b e =
     subst (λ (x : Edge). (int_eq a.weight x.weight && nat_eq a.node x.node) ≡ true) e
-    (both_true _ _ (int_eq-refl a.weight) (eq-eqb a.node a.node refl))
+    (and_from _ _ (int_eq-refl a.weight) (eq-eqb a.node a.node refl))
 
 pub returns : goal.returns
 returns c = λ l t u h g.
