@@ -97,43 +97,43 @@ other S t = part1 S t
 other P t = part1 P t
 other N t = part0 N t
 
--- the tables that a step makes beside the parts of its two
-abbrev pub made : Decomp → Table → Table → List Table
-made S a b = []
-made P a b = []
-made N a b = tried N a ∷ tried N b ∷ []
+-- the sums of parts that a step makes
+abbrev pub sums_at : Decomp → Table → Table → List Table
+sums_at S a b = []
+sums_at P a b = []
+sums_at N a b = tried N a ∷ tried N b ∷ []
 
--- a step: the bit by which it goes, what it makes, and the two tables below to which it goes
-pub record Step : Type 0 where
+-- a step: the bit by which it goes, the sums that it makes, and the two tables below to which it goes
+pub record WalkStep : Type 0 where
   pub bit : Bool
-  pub made : List Table
+  pub sums : List Table
   pub left : Table
   pub right : Table
 
 -- to the tables that are tried where these differ, by the bit 0, and else to the others, by the bit 1
-abbrev pub step_at : Decomp → Table → Table → Step
-step_at d a b =
+abbrev pub walk_step : Decomp → Table → Table → WalkStep
+walk_step d a b =
     let bit = same_table (tried d a) (tried d b) in
     record {
       bit = bit;
-      made = made d a b;
+      sums = sums_at d a b;
       left = if bit then other d a else tried d a;
       right = if bit then other d b else tried d b;
     }
 
-abbrev pub steps : List Decomp → Table → Table → List Step
-steps [] a b = []
-steps (d ∷ ds) a b = let first = step_at d a b in first ∷ steps ds first.left first.right
+abbrev pub walk_steps : List Decomp → Table → Table → List WalkStep
+walk_steps [] a b = []
+walk_steps (d ∷ ds) a b = let first = walk_step d a b in first ∷ walk_steps ds first.left first.right
 
 -- the bits by which the walk goes, for the law that these are those of the first difference
 abbrev pub walk_bits : List Decomp → Table → Table → List Bool
-walk_bits ds a b = map (λ s. s.bit) (steps ds a b)
+walk_bits ds a b = map (λ s. s.bit) (walk_steps ds a b)
 
 -- the two tables with which it begins, and those of each step
 abbrev pub walk : List Decomp → ℕ → Table → Table → List Piece
 walk ds l a b =
     pieces l (a ∷ b ∷ [])
-    ++ flat_map (λ (level, s). pieces level (s.made ++ s.left ∷ s.right ∷ [])) (enumerate_from (l + 1) (steps ds a b))
+    ++ flat_map (λ (level, s). pieces level (s.sums ++ s.left ∷ s.right ∷ [])) (enumerate_from (l + 1) (walk_steps ds a b))
 
 abbrev with_last : ℤ → Table
 with_last z = halves (halves (entry (pos 3)) (entry (pos 1))) (halves (entry (pos 4)) (entry z))
