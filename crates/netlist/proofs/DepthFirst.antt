@@ -9,36 +9,17 @@ use Rattle.std.proofs.lemmas.List.Sums.{sum_by_push, sum_by-set, sum_by-cons}
 use Rattle.circuits.proofs.Descent.{reaches_on}
 use Rattle.circuits.proofs.Gates.{fanin-few}
 use Rattle.circuits.proofs.Members.{Contains-from_among, among-from_Contains, among-append_left, among-append_right, among_push, Contains-cases, Contains-cons, Contains-head, Contains-nil}
-use Rattle.netlist.proofs.Waits.{count_of_push}
+use Rattle.netlist.proofs.Counts.{count_of_push, count-from_among, among-from_count}
 use Rattle.circuits.specs.Circuit.{Circuit, net_count, fanin}
 use Rattle.circuits.specs.Limits.{IsWithinLimits}
 use Rattle.circuits.specs.Order.{IsInput, Reaches, step, is_among}
-use Rattle.netlist.specs.Postorder.{none, more, visited, IsLooked, IsWalk}
+use Rattle.netlist.specs.Inside.Postorder.{none, more, visited, IsLooked, IsWalk}
 use Rattle.circuits.specs.Valuation.{bit_of}
-use Rattle.netlist.specs.Waiting.{count_of}
+use Rattle.netlist.specs.Inside.Waiting.{count_of}
 use Rattle.netlist.specs.declared.postorder.Visit.{Visit}
 
 abbrev one_if : Bool → ℕ
 one_if b = if b then 1 else 0
-
-count_of-cons : (y : ℕ) (xs : List ℕ) (x : ℕ) → count_of (y ∷ xs) x ≡ one_if (nat_eq x y) + count_of xs x
-count_of-cons y xs x = sum_by-cons (λ z. one_if (nat_eq x z)) y xs
-
-pub count-from_among : (xs : List ℕ) (x : ℕ) → is_among xs x ≡ true → 0 < count_of xs x
-count-from_among [] x found = absurd (false≢true found)
-count-from_among (y ∷ xs) x found = ⊎_elim
-    (λ same. let one : one_if (nat_eq x y) ≡ 1 = ap one_if same in omega (arith, one, count_of-cons y xs x))
-    (λ other. let later : is_among xs x ≡ true = sym (ap (λ b. b || is_among xs x) other) ∙ found in omega (arith, count-from_among xs x later, count_of-cons y xs x))
-    (cases_Bool (nat_eq x y))
-
-pub among-from_count : (xs : List ℕ) (x : ℕ) → 0 < count_of xs x → is_among xs x ≡ true
-among-from_count [] x some = absurd (omega (arith, some))
-among-from_count (y ∷ xs) x some = ⊎_elim
-    (λ same. ap (λ b. b || is_among xs x) same)
-    (λ other.
-    let none : one_if (nat_eq x y) ≡ 0 = ap one_if other in
-    ap (λ b. b || is_among xs x) other ∙ among-from_count xs x (omega (arith, some, none, count_of-cons y xs x)))
-    (cases_Bool (nat_eq x y))
 
 -- one mark more
 marked-there : (bits : List Bool) (net : ℕ) → net < length bits → bit_of (slice_set bits net true) net ≡ true

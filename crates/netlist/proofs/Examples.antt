@@ -2,11 +2,11 @@
 use Rattle.std.specs.Prelude.{◌≡◌, ℕ, ◌⊎◌, true, [], ◌∷◌, refl}
 use Rattle.std.proofs.Common.{sym, ap, subst, inl, inr, ⊎_elim, arith, eqb-true}
 use Rattle.std.proofs.lemmas.Bool.{or_cases, false≢true}
-use Rattle.netlist.proofs.Circles.{last_of}
+use Rattle.netlist.proofs.Postorders.{last_of}
 use Rattle.circuits.proofs.Members.{Contains-cases, Contains-nil}
 use Rattle.circuits.specs.Examples.{looped}
 use Rattle.circuits.specs.Order.{IsInput, Reaches, step, steps, is_among}
-use Rattle.netlist.specs.Postorder.{ComesAfter, IsPostorder, none, more}
+use Rattle.netlist.specs.Inside.Postorder.{ComesAfter, IsPostorder, none, more}
 
 looped-input : (input : ℕ) → IsInput looped 1 input → (input ≡ 1) ⊎ (input ≡ 0)
 looped-input input reads = ⊎_elim

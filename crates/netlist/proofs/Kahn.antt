@@ -14,10 +14,10 @@ use Rattle.std.proofs.lemmas.List.Elements.{Contains-get_or}
 use Rattle.circuits.proofs.Gates.{IsGate-from_input}
 use Rattle.circuits.proofs.Members.{Contains-from_among, among-from_Contains, Contains-head, Contains-cases, find-Some, find-None, Contains-gate_nets, IsGate-from_gate_nets, length-gates}
 use Rattle.circuits.proofs.Topological.{Begins, begins_first, Next, Next-from_is_next}
-use Rattle.netlist.proofs.Waits.{fanin-past}
+use Rattle.netlist.proofs.Counts.{fanin-past, count_of-cons, Contains-from_count, count-from_Contains}
 use Rattle.circuits.specs.Circuit.{Circuit, IsGate, input_count, net_count, gate_nets, fanin}
 use Rattle.circuits.specs.Order.{IsInput, is_among, is_ready, is_next, with_next, first_listed, topological}
-use Rattle.netlist.specs.Waiting.{is_gate, open_inputs, count_of}
+use Rattle.netlist.specs.Inside.Waiting.{is_gate, open_inputs, count_of}
 
 -- nothing is open exactly where all are ready
 none_open : {X : Type 0} (p : X → Bool) (xs : List X) → (count_by (λ x. not (p x)) xs == 0) ≡ list_all p xs
@@ -32,27 +32,6 @@ none_open p (x ∷ xs) = by_head (p x) refl (none_open p xs)
     by_head false e rest =
         let one : count_by (λ y. not (p y)) (x ∷ xs) ≡ 1 + count_by (λ y. not (p y)) xs = split ∙ ap (λ b. cond (not b) 1 0 + count_by (λ y. not (p y)) xs) e in
         ne_eqb _ 0 (λ none. omega (arith, one, none))
-
--- a net that is counted is in the list
-count_of-cons : (x : ℕ) (xs : List ℕ) (y : ℕ) → count_of (x ∷ xs) y ≡ cond (nat_eq y x) 1 0 + count_of xs y
-count_of-cons x xs y = sum_by-cons (λ z. cond (nat_eq y z) 1 0) x xs
-
-pub Contains-from_count : (xs : List ℕ) (y : ℕ) → 0 < count_of xs y → Contains xs y
-Contains-from_count [] y some = absurd (omega arith)
-Contains-from_count (x ∷ xs) y some = ⊎_elim
-    (λ same. subst (λ z. Contains (x ∷ xs) z) (sym (eqb-true y x same)) (Contains-head x xs))
-    (λ other.
-    let none = cond-false {A = ℕ} (nat_eq y x) 1 0 other in
-    let there : Contains xs y = Contains-from_count xs y (omega (arith, count_of-cons x xs y, none)) in
-    (suc there.0, omega (arith, there.1), there.2))
-    (cases_Bool (nat_eq y x))
-
-pub count-from_Contains : (xs : List ℕ) (y : ℕ) → Contains xs y → 0 < count_of xs y
-count-from_Contains [] y has = absurd (let low = has.1 in omega arith)
-count-from_Contains (x ∷ xs) y has = ⊎_elim
-    (λ same. let one = cond-true {A = ℕ} (nat_eq y x) 1 0 (eq-eqb y x (sym same)) in omega (arith, count_of-cons x xs y, one))
-    (λ later. omega (arith, count_of-cons x xs y, count-from_Contains xs y later))
-    (Contains-cases x xs y has)
 
 -- the first in a range that passes
 find-range_first : (p : ℕ → Bool) (a n x : ℕ) → find p (range_with_len a n) ≡ Some x → (y : ℕ) → a ≤ y → y < x → p y ≡ false

@@ -11,11 +11,11 @@ use Rattle.netlist.proofs.Sources.{is_some-found, FindsNames-input, FindsNames-g
 use Rattle.netlist.specs.Draft.{Draft, GateLine, OutputLine, is_defined, is_output, output_line, with_input, with_gate, input_is_too_large, gate_is_too_large, net_fault, input_fault, gate_fault, next_call, gate_line}
 use Rattle.circuits.specs.Limits.{AcceptsArity, IsShort, is_long}
 use Rattle.circuits.specs.declared.limits.TheConstants.{MOST_INPUTS, MOST_GATES, MOST_FANIN}
-use Rattle.netlist.specs.Maker.{IsKept, IsSizedLine, drafted, gate_kept}
+use Rattle.netlist.specs.Inside.Maker.{IsKept, IsSizedLine, drafted, gate_kept}
 use Rattle.netlist.specs.declared.draft.DraftGate.{DraftGate}
 use Rattle.netlist.specs.declared.draft.DraftOutput.{DraftOutput}
 use Rattle.std.specs.declared.alloc.Global.{Global}
-use Rattle.netlist.specs.Source.{FindsNames, FindsOneMore}
+use Rattle.netlist.specs.Inside.Source.{FindsNames, FindsOneMore}
 use Rattle.netlist.specs.declared.fault.NetFault.{NetFault}
 use Rattle.circuits.specs.declared.gate_word.GateWord.{GateWord}
 use Rattle.netlist.specs.declared.source.Source.{Source}

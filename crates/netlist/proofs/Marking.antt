@@ -4,7 +4,7 @@ use Rattle.std.proofs.Common.{sym, ◌∙◌, ap, subst, inl, inr, ⊎_elim}
 use Rattle.std.proofs.lemmas.Bool.{cases_Bool, both_ways, false≢true, or_cases, or_left, or_right, and_from, and_parts}
 use Rattle.std.proofs.lemmas.List.Elements.{Contains-push, Contains-get_or}
 use Rattle.circuits.proofs.Members.{Contains-from_among, among-from_Contains, among_push, among-append_left}
-use Rattle.netlist.specs.Leads.{Leads, at_once, by_way, IsClosed}
+use Rattle.netlist.specs.Inside.Leads.{Leads, at_once, by_way, IsClosed}
 use Rattle.circuits.specs.Order.{is_among}
 use Rattle.circuits.specs.Valuation.{bit_of}
 

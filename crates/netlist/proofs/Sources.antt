@@ -14,7 +14,7 @@ use Rattle.std.proofs.lemmas.List.Quantifiers.{position-Some}
 use Rattle.std.proofs.lemmas.Map.Keys.{apart_from_distinct}
 use Rattle.std.specs.Option.{option_map}
 use Rattle.circuits.specs.Names.{place_of}
-use Rattle.netlist.specs.Source.{name_at, source_net, FindsNames, FindsOneMore}
+use Rattle.netlist.specs.Inside.Source.{name_at, source_net, FindsNames, FindsOneMore}
 use Rattle.netlist.specs.declared.source.Source.{Source}
 use Rattle.netlist.specs.declared.source.Source.TheVariants.{Input, Gate}
 

@@ -1,11 +1,4 @@
 pub mod Draft
 pub mod Fault
 pub mod Finish
-pub mod Finishing
-pub mod Kept
-pub mod Leads
-pub mod Maker
-pub mod Netlist
-pub mod Postorder
-pub mod Source
-pub mod Waiting
+pub mod Inside

@@ -1,11 +1,11 @@
 ghost use Rattle.std.specs.Prelude.{◌≡◌, ℕ, ◌<◌, ◌⊎◌, ◌↔◌, true, false, not, length, IfOk, OnOk};
 ghost use Rattle.circuits.specs.Circuit.{net_count};
 ghost use Rattle.circuits.specs.Cone.{reaches_itself};
-ghost use Rattle.netlist.specs.Leads.{Leads, IsClosed};
+ghost use Rattle.netlist.specs.Inside.Leads.{Leads, IsClosed};
 ghost use Rattle.circuits.specs.Order.{is_among};
-ghost use Rattle.netlist.specs.Postorder.{IsPostorder};
+ghost use Rattle.netlist.specs.Inside.Postorder.{IsPostorder};
 ghost use Rattle.circuits.specs.Valuation.{bit_of};
-ghost use Rattle.netlist.specs.Waiting.{CountsReaders, list_at};
+ghost use Rattle.netlist.specs.Inside.Waiting.{CountsReaders, list_at};
 
 use crate::cone::mark_all;
 use crate::nets::Nets;

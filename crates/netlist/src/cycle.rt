@@ -1,8 +1,8 @@
 ghost use Rattle.std.specs.Prelude.{◌≡◌, ℕ, ◌<◌, not, length, map, IfOk};
 ghost use Rattle.circuits.specs.Circuit.{net_count};
 ghost use Rattle.circuits.specs.Cone.{reaches_itself};
-ghost use Rattle.netlist.specs.Finishing.{cycle_call};
-ghost use Rattle.netlist.specs.Maker.{gate_kept};
+ghost use Rattle.netlist.specs.Finish.{least, calls_on_cycles};
+ghost use Rattle.netlist.specs.Inside.Maker.{gate_kept};
 ghost use Rattle.circuits.specs.Order.{topological};
 ghost use Rattle.circuits.specs.Valuation.{bit_of};
 
@@ -21,7 +21,7 @@ pub(crate) fn cycle_of(
 ) -> Result<Option<u32>, AllocError>
     requires lines { length gates.now ≡ length nets.now.gates }
     requires order { order.now ≡ topological nets.now }
-    ensures { IfOk result (λ first. first ≡ cycle_call nets.now (map gate_kept gates.now)) }
+    ensures { IfOk result (λ first. first ≡ least (calls_on_cycles nets.now (map gate_kept gates.now))) }
 {
     if order.len() == nets.gates() as usize {
         return Ok(None);
@@ -32,7 +32,7 @@ pub(crate) fn cycle_of(
 /// The first call whose gate reaches itself, found in time that grows with the number of gate inputs.
 fn first_cycle(alloc: Global, nets: &Nets, gates: &[DraftGate]) -> Result<Option<u32>, AllocError>
     requires { length gates.now ≡ length nets.now.gates }
-    ensures { IfOk result (λ first. first ≡ cycle_call nets.now (map gate_kept gates.now)) }
+    ensures { IfOk result (λ first. first ≡ least (calls_on_cycles nets.now (map gate_kept gates.now))) }
 {
     let alone = off_cycles(alloc, nets)?;
     Ok(first_on_cycle(nets, gates, &alone))
@@ -43,7 +43,7 @@ fn first_on_cycle(nets: &Nets, gates: &[DraftGate], alone: &[bool]) -> Option<u3
     requires lines { length gates.now ≡ length nets.now.gates }
     requires length { length alone.now ≡ net_count nets.now }
     requires marks { (net : ℕ) → net < net_count nets.now → bit_of alone.now net ≡ not (reaches_itself nets.now net) }
-    ensures { result ≡ cycle_call nets.now (map gate_kept gates.now) }
+    ensures { result ≡ least (calls_on_cycles nets.now (map gate_kept gates.now)) }
 {
     let inputs = nets.inputs() as usize;
     let mut first = None;

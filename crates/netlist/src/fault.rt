@@ -100,3 +100,14 @@ impl<T: Drop> From<AllocFailed<T>> for NetError {
         NetError::Memory
     }
 }
+
+impl From<NetFault> for NetError {
+    ghost use Rattle.std.specs.Prelude.{◌≡◌};
+    ghost use Rattle.netlist.specs.declared.fault.NetError.TheVariants.{Fault};
+
+    ghost from_gives = { λ f e. e ≡ Fault f };
+
+    fn from(fault: NetFault) -> NetError {
+        NetError::Fault(fault)
+    }
+}

@@ -1,18 +1,20 @@
-ghost use Rattle.std.specs.Prelude.{◌≡◌, ◌<◌, ◌^◌, length, map, filter, IfOk, string_bytes, vec_len};
+ghost use Rattle.std.specs.Prelude.{◌≡◌, ◌<◌, ◌^◌, length, map, filter, IfOk, None, string_bytes, vec_len};
 ghost use Rattle.std.specs.HashMap.{get_by_text};
 ghost use Rattle.std.specs.List.{list_any};
-ghost use Rattle.netlist.specs.Finish.{least};
+ghost use Rattle.netlist.specs.Finish.{least, numbered_by, calls_naming, calls_on_cycles};
 ghost use Rattle.std.specs.Option.{option_map};
-ghost use Rattle.netlist.specs.Fault.{AnswersInMemory};
-ghost use Rattle.netlist.specs.Finishing.{is_unknown, earliest, number_in, numbered_in, circuit_in, cycle_call, HasSmallNets};
-ghost use Rattle.netlist.specs.Kept.{net_gate_kept};
-ghost use Rattle.netlist.specs.Maker.{gate_kept, output_kept, drafted};
+ghost use Rattle.std.specs.Result.{result_err};
+ghost use Rattle.circuits.specs.Order.{IsAccepted, topological};
+ghost use Rattle.netlist.specs.Fault.{fault};
+ghost use Rattle.netlist.specs.Inside.LookUp.{is_unknown, earliest, number_in, circuit_in, HasSmallNets};
+ghost use Rattle.netlist.specs.Inside.Kept.{net_gate_kept};
+ghost use Rattle.netlist.specs.Inside.Maker.{gate_kept, output_kept, drafted};
 ghost use Rattle.circuits.specs.Sound.{IsSound};
-ghost use Rattle.netlist.specs.Source.{FindsNames};
+ghost use Rattle.netlist.specs.Inside.Source.{FindsNames};
 
 use crate::cycle::cycle_of;
 use crate::draft::{DraftGate, DraftOutput};
-use crate::fault::{NetCause, NetError, NetFault};
+use crate::fault::{NetCause, NetFault};
 use crate::netlist::Netlist;
 use crate::nets::{NetGate, Nets};
 use crate::order::order_of;
@@ -26,7 +28,7 @@ pub(crate) fn first_unknown(
     outputs: &[DraftOutput],
     sources: &HashMap<String, Source>,
 ) -> Option<u32>
-    ensures { result ≡ earliest (least (map (λ line. line.call) (filter (λ line. list_any (is_unknown (get_by_text sources.now)) line.inputs) (map gate_kept gates.now)))) (least (map (λ line. line.call) (filter (λ line. is_unknown (get_by_text sources.now) line.name) (map output_kept outputs.now)))) }
+    ensures { result ≡ least (calls_naming (is_unknown (get_by_text sources.now)) (map gate_kept gates.now) (map output_kept outputs.now)) }
 {
     earliest(
         first_unknown_gate(gates, sources),
@@ -114,7 +116,7 @@ pub(crate) fn numbered_gates(
     sources: &HashMap<String, Source>,
 ) -> Result<Vec<NetGate>, AllocError>
     requires { HasSmallNets inputs (get_by_text sources.now) }
-    ensures { IfOk result (λ numbered. map net_gate_kept numbered.items ≡ map (numbered_in inputs (get_by_text sources.now)) (map gate_kept gates.now)) }
+    ensures { IfOk result (λ numbered. map net_gate_kept numbered.items ≡ map (numbered_by (number_in inputs (get_by_text sources.now))) (map gate_kept gates.now)) }
 {
     let mut numbered = Vec::with_capacity(alloc, gates.len())?;
     for gate in gates {
@@ -130,7 +132,7 @@ fn numbered_gate(
     sources: &HashMap<String, Source>,
 ) -> Result<NetGate, AllocError>
     requires { HasSmallNets inputs (get_by_text sources.now) }
-    ensures { IfOk result (λ numbered. net_gate_kept numbered ≡ numbered_in inputs (get_by_text sources.now) (gate_kept gate.now)) }
+    ensures { IfOk result (λ numbered. net_gate_kept numbered ≡ numbered_by (number_in inputs (get_by_text sources.now)) (gate_kept gate.now)) }
 {
     Ok(NetGate {
         name: String::from_str(alloc, gate.name.as_str())?,
@@ -179,23 +181,40 @@ pub(crate) fn nets_of(
     })
 }
 
-/// The netlist of the nets, unless they have a cycle.
+/// The order of the nets, and the first call whose gate reaches itself, if there is one.
+pub(crate) fn order_and_cycle(
+    alloc: Global,
+    nets: &Nets,
+    gates: &[DraftGate],
+) -> Result<(Vec<u32>, Option<u32>), AllocError>
+    requires { length gates.now ≡ length nets.now.gates }
+    ensures order { IfOk result (λ found. found.0.items ≡ topological nets.now) }
+    ensures cycle { IfOk result (λ found. found.1 ≡ least (calls_on_cycles nets.now (map gate_kept gates.now))) }
+{
+    let order = order_of(alloc, nets)?;
+    let on_cycle = cycle_of(alloc, nets, gates, &order)?;
+    Ok((order, on_cycle))
+}
+
+/// The netlist of the nets and their order, unless a call stands on a cycle.
 pub(crate) fn without_cycle(
     nets: Nets,
-    gates: &[DraftGate],
+    order: Vec<u32>,
     sources: HashMap<String, Source>,
-) -> Result<Netlist, NetError>
-    requires lines { length gates.now ≡ length nets.gates }
+    on_cycle: Option<u32>,
+) -> Result<Netlist, NetFault>
     requires sound { IsSound nets }
+    requires order { order.items ≡ topological nets }
     requires sources { FindsNames nets.inputs (map (λ gate. gate.name) nets.gates) (get_by_text sources) }
+    requires accepted { on_cycle ≡ None → IsAccepted nets }
     ensures circuit { IfOk result (λ netlist. netlist ≡ nets) }
-    ensures fault { AnswersInMemory result (option_map (λ at. record { at = at; cause = NetCause.Cycle }) (cycle_call nets (map gate_kept gates.now))) }
+    ensures fault { result_err result ≡ option_map (λ at. fault at NetCause.Cycle) on_cycle }
 {
-    let alloc = *nets.inputs.allocator();
-    let order = order_of(alloc, &nets)?;
-    if let Some(at) = cycle_of(alloc, &nets, gates, &order)? {
-        let cause = NetCause::Cycle;
-        return Err(NetError::Fault(NetFault { at, cause }));
+    match on_cycle {
+        Some(at) => Err(NetFault {
+            at,
+            cause: NetCause::Cycle,
+        }),
+        None => Ok(Netlist::new(nets, order, sources)),
     }
-    Ok(Netlist::new(nets, order, sources))
 }

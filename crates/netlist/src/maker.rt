@@ -7,12 +7,12 @@ ghost use Rattle.netlist.specs.Draft.{nothing, counted, with_input, with_gate, w
 ghost use Rattle.netlist.specs.Fault.{Answers, AnswersInMemory};
 ghost use Rattle.netlist.specs.Finish.{circuit_of, finish_fault, undefined_fault};
 ghost use Rattle.circuits.specs.Limits.{AcceptsArity, is_long};
-ghost use Rattle.netlist.specs.Maker.{gate_kept, output_kept};
-ghost use Rattle.netlist.specs.Source.{FindsOneMore};
+ghost use Rattle.netlist.specs.Inside.Maker.{gate_kept, output_kept};
+ghost use Rattle.netlist.specs.Inside.Source.{FindsOneMore};
 
 use crate::draft::{DraftGate, DraftOutput};
 use crate::fault::{NetCause, NetError, NetFault};
-use crate::finish::{first_unknown, nets_of, without_cycle};
+use crate::finish::{first_unknown, nets_of, order_and_cycle, without_cycle};
 use crate::netlist::Netlist;
 use crate::source::Source;
 use circuits::{GateWord, LONGEST_NAME, MOST_FANIN, MOST_GATES, MOST_INPUTS};
@@ -35,7 +35,7 @@ impl Model for NetlistMaker {
     ghost use Rattle.std.specs.HashMap.{get_by_text};
     ghost use Rattle.std.specs.HashSet.{contains_text};
     ghost use Rattle.netlist.specs.Draft.{Draft};
-    ghost use Rattle.netlist.specs.Maker.{drafted, IsKept};
+    ghost use Rattle.netlist.specs.Inside.Maker.{drafted, IsKept};
 
     ghost Value = { Draft };
 
@@ -45,6 +45,7 @@ impl Model for NetlistMaker {
 }
 
 impl NetlistMaker {
+    /// A maker of the empty netlist, to which no call was made.
     pub fn new(alloc: Global) -> NetlistMaker
         ensures { result ≡ nothing }
     {
@@ -58,7 +59,8 @@ impl NetlistMaker {
         }
     }
 
-    /// Adds an input. A refused call changes nothing but the number of calls.
+    /// Adds an input. The name is too large above `LONGEST_NAME` bytes, and so is one input more than
+    /// `MOST_INPUTS`. A refused call changes nothing but the number of calls.
     pub fn add_input(&mut self, name: &str) -> Result<(), NetError>
         ensures fault { Answers result (input_fault self.old name.now) }
         ensures ok { OnOk result (self.new ≡ with_input self.old name.now) }
@@ -73,8 +75,9 @@ impl NetlistMaker {
         Ok(())
     }
 
-    /// Adds a gate. An input may be named before it is defined. A refused call changes nothing but
-    /// the number of calls.
+    /// Adds a gate. An input may be named before it is defined. Too large are a name above `LONGEST_NAME`
+    /// bytes, more inputs than `MOST_FANIN`, and one gate more than `MOST_GATES`. A refused call changes
+    /// nothing but the number of calls.
     pub fn add_gate(&mut self, name: &str, word: GateWord, inputs: &[&str]) -> Result<(), NetError>
         requires { AcceptsArity word (length inputs.now) }
         ensures fault { Answers result (gate_fault self.old name.now (map (λ input. input.now) inputs.now)) }
@@ -122,10 +125,12 @@ impl NetlistMaker {
             let cause = NetCause::UndefinedNet;
             return Err(NetError::Fault(NetFault { at, cause }));
         }
+        let alloc = *self.inputs.allocator();
         let inputs = self.inputs;
         let nets = nets_of(inputs, &self.gates, &self.outputs, &self.sources)?;
+        let (order, on_cycle) = order_and_cycle(alloc, &nets, &self.gates)?;
         let sources = self.sources;
-        without_cycle(nets, &self.gates, sources)
+        Ok(without_cycle(nets, order, sources, on_cycle)?)
     }
 }
 
@@ -184,7 +189,7 @@ fn put_input(
     let key = String::from_str(alloc, name)?;
     inputs.reserve(1)?;
     sources.insert(key, Source::Input(inputs.len() as u32))?;
-    inputs.push(kept).unwrap();
+    inputs.push_reserved(kept);
     Ok(())
 }
 
@@ -232,7 +237,7 @@ fn put_gate(
     let key = String::from_str(*gates.allocator(), name)?;
     gates.reserve(1)?;
     sources.insert(key, Source::Gate(gates.len() as u32))?;
-    gates.push(gate).unwrap();
+    gates.push_reserved(gate);
     Ok(())
 }
 
@@ -253,6 +258,6 @@ fn put_output(
     let key = String::from_str(alloc, name)?;
     outputs.reserve(1)?;
     named.insert(key)?;
-    outputs.push(DraftOutput { call, name: kept }).unwrap();
+    outputs.push_reserved(DraftOutput { call, name: kept });
     Ok(())
 }

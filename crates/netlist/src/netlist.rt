@@ -3,7 +3,7 @@ ghost use Rattle.std.specs.HashMap.{get_by_text};
 ghost use Rattle.circuits.specs.Circuit.{IsGate, input_count, net_count, gate_of, name_of};
 ghost use Rattle.circuits.specs.Cone.{cone, is_in_cone};
 ghost use Rattle.circuits.specs.Names.{net_of};
-ghost use Rattle.netlist.specs.Netlist.{IsOrdered};
+ghost use Rattle.netlist.specs.Inside.Netlist.{IsOrdered};
 ghost use Rattle.circuits.specs.Sound.{IsSound};
 ghost use Rattle.circuits.specs.Order.{IsAccepted, topological};
 ghost use Rattle.circuits.specs.Valuation.{bit_of, valuation};
@@ -29,7 +29,7 @@ pub struct Netlist {
 impl Model for Netlist {
     ghost use Rattle.std.specs.HashMap.{get_by_text};
     ghost use Rattle.circuits.specs.Circuit.{Circuit};
-    ghost use Rattle.netlist.specs.Netlist.{IsOrdered};
+    ghost use Rattle.netlist.specs.Inside.Netlist.{IsOrdered};
 
     ghost Value = { Circuit };
 
@@ -60,6 +60,7 @@ impl Netlist {
         self.nets.inputs()
     }
 
+    /// How many nets are gates. Their numbers come after those of the inputs.
     pub fn gates(&self) -> u32
         ensures gates { result ≡ length self.now.gates }
         ensures sound { IsSound self.now }
@@ -69,6 +70,7 @@ impl Netlist {
         self.nets.gates()
     }
 
+    /// The name that the net was given.
     pub fn name(&self, net: u32) -> &str
         requires { net < net_count self.now }
         ensures { result.now ≡ name_of self.now net }
@@ -86,6 +88,7 @@ impl Netlist {
         }
     }
 
+    /// The nets that are outputs, in the order in which they were first named.
     pub fn outputs(&self) -> &[u32]
         ensures { result.now ≡ self.now.outputs }
     {
@@ -102,7 +105,8 @@ impl Netlist {
 
     /// The gates, each after all that it reads.
     pub fn topological(&self) -> &[u32]
-        ensures { result.now ≡ topological self.now }
+        ensures order { result.now ≡ topological self.now }
+        ensures accepted { IsAccepted self.now }
     {
         &self.order
     }
@@ -110,7 +114,8 @@ impl Netlist {
     /// The gates among the nets and those that they reach along gate inputs, in topological order.
     pub fn cone(&self, nets: &[u32]) -> Result<Vec<u32>, AllocError>
         requires { All (λ net. net < net_count self.now) nets.now }
-        ensures { IfOk result (λ gates. gates.items ≡ cone self.now nets.now) }
+        ensures gates { IfOk result (λ gates. gates.items ≡ cone self.now nets.now) }
+        ensures accepted { IsAccepted self.now }
     {
         cone_of(*self.order.allocator(), &self.nets, &self.order, nets)
     }
@@ -129,6 +134,7 @@ impl Netlist {
         requires { length inputs.now ≡ input_count self.now }
         ensures ok { OnOk result (nets.new.items ≡ valuation self.now inputs.now) }
         ensures err { OnErr result (nets.new.items ≡ nets.old.items) }
+        ensures accepted { IsAccepted self.now }
     {
         *nets = values_of(*self.order.allocator(), &self.nets, &self.order, inputs)?;
         Ok(())

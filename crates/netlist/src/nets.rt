@@ -23,7 +23,7 @@ pub(crate) struct Nets {
 
 impl Model for Nets {
     ghost use Rattle.circuits.specs.Circuit.{Circuit};
-    ghost use Rattle.netlist.specs.Kept.{circuit_kept};
+    ghost use Rattle.netlist.specs.Inside.Kept.{circuit_kept};
     ghost use Rattle.circuits.specs.Sound.{IsSound};
 
     ghost Value = { Circuit };

@@ -4,7 +4,7 @@ ghost use Rattle.std.specs.Ordering.{nat_cmp};
 ghost use Rattle.circuits.specs.Circuit.{net_count};
 ghost use Rattle.circuits.specs.declared.limits.TheConstants.{MOST_FANIN};
 ghost use Rattle.circuits.specs.Order.{topological};
-ghost use Rattle.netlist.specs.Waiting.{CountsReaders, HasReader, is_gate, open_inputs, count_of, list_at};
+ghost use Rattle.netlist.specs.Inside.Waiting.{CountsReaders, HasReader, is_gate, open_inputs, count_of, list_at};
 
 use crate::nets::Nets;
 use std::alloc::{AllocError, Global};

@@ -2,7 +2,7 @@ ghost use Rattle.std.specs.Prelude.{◌≡◌, ℕ, ◌<◌, true, [], ◌∷◌
 ghost use Rattle.circuits.specs.Circuit.{net_count};
 ghost use Rattle.circuits.specs.Sound.{IsSound};
 ghost use Rattle.circuits.specs.Order.{is_among};
-ghost use Rattle.netlist.specs.Postorder.{IsPostorder, IsWalk};
+ghost use Rattle.netlist.specs.Inside.Postorder.{IsPostorder, IsWalk};
 ghost use Rattle.circuits.specs.Valuation.{bit_of};
 
 use crate::nets::Nets;

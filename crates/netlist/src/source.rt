@@ -1,5 +1,5 @@
 ghost use Rattle.std.specs.Prelude.{◌≡◌, ◌^◌, ◌<◌};
-ghost use Rattle.netlist.specs.Source.{source_net};
+ghost use Rattle.netlist.specs.Inside.Source.{source_net};
 
 /// What a name belongs to, counted from 0 among its own.
 #[derive(Clone, Copy, Debug, PartialEq, Eq)]

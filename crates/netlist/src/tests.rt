@@ -1,5 +1,5 @@
 ghost use Rattle.std.specs.Prelude.{◌<◌};
-ghost use Rattle.circuits.specs.Circuit.{net_count};
+ghost use Rattle.circuits.specs.Circuit.{IsGate, net_count};
 
 use super::*;
 use std::alloc::AllocError;
@@ -23,6 +23,12 @@ fn reached_from(netlist: &Netlist, net: u32) -> Result<Vec<bool>, AllocError>
     netlist.reached(&[net])
 }
 
+fn gate_of(netlist: &Netlist, net: u32) -> (GateWord, &[u32])
+    requires { IsGate netlist.now net }
+{
+    netlist.gate(net)
+}
+
 #[test]
 fn half_adder_is_made_and_read(rt: HostRuntime) -> Result<(), Fail> {
     let mut maker = NetlistMaker::new(rt.alloc());
@@ -36,6 +42,7 @@ fn half_adder_is_made_and_read(rt: HostRuntime) -> Result<(), Fail> {
     let netlist = maker.finish()?;
     assert_eq!(rt; (netlist.inputs(), netlist.gates()), (2, 2));
     assert!(rt; netlist.name(3) == "c");
+    assert!(rt; gate_of(&netlist, 3) == (GateWord::And, [0, 1].as_slice()));
     assert_eq!(rt; (netlist.find("s"), netlist.find("t")), (Some(2), None));
     assert!(rt; netlist.outputs() == [2, 3].as_slice());
     assert!(rt; netlist.topological() == [2, 3].as_slice());

@@ -1,8 +1,8 @@
 use Rattle.std.proofs.Common.{◌<◌, ◌∙◌, sym, length, arith}
 use Rattle.std.proofs.lemmas.List.{nil_from_length}
 use Rattle.netlist.proofs.Marking.{All-listed, led_begins, led_within, led_more, marks-led}
-use Rattle.netlist.proofs.Waits.{nets-list_at}
-use Rattle.netlist.specs.Waiting.{list_at}
+use Rattle.netlist.proofs.Counts.{nets-list_at}
+use Rattle.netlist.specs.Inside.Waiting.{list_at}
 use Rattle.netlist.proofs.components.mark_from.Goals as goal
 
 pub mark_all-requires : goal.mark_all-requires

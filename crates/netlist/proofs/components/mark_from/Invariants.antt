@@ -1,6 +1,6 @@
 use Rattle.std.proofs.Common.{◌+◌, not, count_by, length}
 use Rattle.netlist.proofs.Marking.{Walk, Listed, Led}
-use Rattle.netlist.specs.Waiting.{list_at}
+use Rattle.netlist.specs.Inside.Waiting.{list_at}
 use Rattle.netlist.proofs.components.mark_from.Given as goal
 
 abbrev pub invariant-loop-other : goal.invariant-loop-other

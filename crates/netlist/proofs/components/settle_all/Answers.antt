@@ -2,8 +2,8 @@ use Rattle.std.proofs.Common.{◌≡◌, ◌∙◌, sym, ap, length, arith, fals
 use Rattle.std.proofs.lemmas.List.{length-replicate}
 use Rattle.std.proofs.lemmas.List.Elements.{Contains-push}
 use Rattle.circuits.proofs.Members.{among-from_Contains}
-use Rattle.netlist.proofs.Settling.{settling_begins, settling_more, lists_closed}
-use Rattle.netlist.proofs.Waits.{zeros_at, refilled}
+use Rattle.netlist.proofs.Kosaraju.{settling_begins, settling_more, lists_closed}
+use Rattle.netlist.proofs.Counts.{zeros_at, refilled}
 use Rattle.circuits.specs.Circuit.{net_count}
 use Rattle.circuits.specs.Valuation.{bit_of}
 use Rattle.netlist.proofs.components.settle_all.Goals as goal

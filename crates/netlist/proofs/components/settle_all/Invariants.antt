@@ -1,5 +1,5 @@
 use Rattle.std.proofs.Common.{length}
-use Rattle.netlist.proofs.Settling.{Settling}
+use Rattle.netlist.proofs.Kosaraju.{Settling}
 use Rattle.netlist.proofs.components.settle_all.Given as goal
 
 abbrev pub invariant-loop-net : goal.invariant-loop-net

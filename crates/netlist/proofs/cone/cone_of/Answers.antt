@@ -1,8 +1,8 @@
 use Rattle.std.proofs.Common.{◌≡◌, ◌<◌, ◌∙◌, ℕ, false, sym, ap, arith, slice_index, [], ◌∷◌, ◌++◌}
 use Rattle.std.proofs.lemmas.List.{append-nil}
-use Rattle.netlist.proofs.Reach.{topological-is_gate}
+use Rattle.netlist.proofs.ConeWalks.{topological-is_gate}
 use Rattle.std.proofs.lemmas.List.{get_or_default}
-use Rattle.netlist.proofs.Waits.{filter_more}
+use Rattle.netlist.proofs.Counts.{filter_more}
 use Rattle.circuits.specs.Circuit.{net_count}
 use Rattle.circuits.specs.Cone.{is_in_cone}
 use Rattle.netlist.proofs.cone.cone_of.Goals.{then-index+in_ok-push, else-index}

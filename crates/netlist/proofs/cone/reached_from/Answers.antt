@@ -2,8 +2,8 @@ use Rattle.std.proofs.Common.{◌≡◌, ◌<◌, false, ◌||◌, ◌∙◌, sy
 use Rattle.std.proofs.lemmas.List.{length-replicate, nil_from_length}
 use Rattle.std.proofs.lemmas.List.Elements.{All-contains, Contains-get_or}
 use Rattle.netlist.proofs.Marking.{walk_more}
-use Rattle.netlist.proofs.Reach.{cone_begins, reached_onwards, marks-cone}
-use Rattle.netlist.proofs.Waits.{refilled, zeros_at}
+use Rattle.netlist.proofs.ConeWalks.{cone_begins, reached_onwards, marks-cone}
+use Rattle.netlist.proofs.Counts.{refilled, zeros_at}
 use Rattle.circuits.specs.Circuit.{net_count, fanin}
 use Rattle.circuits.specs.Cone.{IsReachedFrom}
 use Rattle.circuits.specs.Order.{is_among}

@@ -1,5 +1,5 @@
 use Rattle.std.proofs.Common.{◌+◌, not, count_by, length}
-use Rattle.netlist.proofs.Reach.{ConeWalk}
+use Rattle.netlist.proofs.ConeWalks.{ConeWalk}
 use Rattle.netlist.proofs.cone.reached_from.Given as goal
 
 abbrev pub invariant-loop-net : goal.invariant-loop-net

@@ -1,6 +1,6 @@
 use Rattle.std.proofs.Common.{◌∙◌, sym, ap, length, map}
-use Rattle.netlist.proofs.Cycles.{none-from_full}
-use Rattle.netlist.specs.Maker.{gate_kept}
+use Rattle.netlist.proofs.CycleCalls.{none-from_full}
+use Rattle.netlist.specs.Inside.Maker.{gate_kept}
 use Rattle.netlist.proofs.cycle.cycle_of.Goals as goal
 
 pub returns-then-order-gates : goal.returns-then-order-gates

@@ -2,11 +2,11 @@ use Rattle.std.proofs.Common.{◌≡◌, ◌+◌, ◌<◌, ◌∙◌, ℕ, Bool,
 use Rattle.std.proofs.lemmas.Bool.{false≢true}
 use Rattle.std.proofs.lemmas.Option.{slice_get-get_or, slice_get-map}
 use Rattle.std.specs.Option.{option_map}
-use Rattle.netlist.proofs.Calls.{cycles_more, earliest-none}
+use Rattle.netlist.proofs.LeastCalls.{cycles_more, earliest-none}
 use Rattle.circuits.specs.Circuit.{input_count, net_count}
 use Rattle.circuits.specs.Cone.{reaches_itself}
-use Rattle.netlist.specs.Finishing.{earliest}
-use Rattle.netlist.specs.Maker.{gate_kept}
+use Rattle.netlist.specs.Inside.LookUp.{earliest}
+use Rattle.netlist.specs.Inside.Maker.{gate_kept}
 use Rattle.circuits.specs.Valuation.{bit_of}
 use Rattle.netlist.proofs.cycle.first_on_cycle.Goals.{then-not-alone-inputs, else-not-alone-inputs}
 use Rattle.netlist.proofs.cycle.first_on_cycle.Goals as goal

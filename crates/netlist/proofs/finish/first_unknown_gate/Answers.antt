@@ -1,10 +1,10 @@
 use Rattle.std.proofs.Common.{◌≡◌, ◌∙◌, true, false, sym, ap, Some, map, string_bytes}
 use Rattle.std.specs.HashMap.{get_by_text}
 use Rattle.std.specs.List.{list_any}
-use Rattle.netlist.proofs.Calls.{calls_more, earliest-none}
+use Rattle.netlist.proofs.LeastCalls.{calls_more, earliest-none}
 use Rattle.netlist.specs.Draft.{GateLine}
-use Rattle.netlist.specs.Finishing.{is_unknown, earliest}
-use Rattle.netlist.specs.Maker.{gate_kept}
+use Rattle.netlist.specs.Inside.LookUp.{is_unknown, earliest}
+use Rattle.netlist.specs.Inside.Maker.{gate_kept}
 use Rattle.netlist.proofs.finish.first_unknown_gate.Goals.{then-reads_unknown, else-reads_unknown}
 use Rattle.netlist.proofs.finish.first_unknown_gate.Goals as goal
 

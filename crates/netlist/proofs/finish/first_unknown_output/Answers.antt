@@ -1,9 +1,9 @@
 use Rattle.std.proofs.Common.{◌≡◌, ◌∙◌, true, false, not, sym, ap, Some, refl}
 use Rattle.std.specs.HashMap.{get_by_text}
-use Rattle.netlist.proofs.Calls.{calls_more, earliest-none}
+use Rattle.netlist.proofs.LeastCalls.{calls_more, earliest-none}
 use Rattle.netlist.specs.Draft.{OutputLine}
-use Rattle.netlist.specs.Finishing.{is_unknown, earliest}
-use Rattle.netlist.specs.Maker.{output_kept}
+use Rattle.netlist.specs.Inside.LookUp.{is_unknown, earliest}
+use Rattle.netlist.specs.Inside.Maker.{output_kept}
 use Rattle.netlist.proofs.finish.first_unknown_output.Goals.{then-not-contains_key, else-not-contains_key}
 use Rattle.netlist.proofs.finish.first_unknown_output.Goals as goal
 

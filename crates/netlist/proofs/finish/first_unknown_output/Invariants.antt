@@ -1,8 +1,8 @@
 use Rattle.std.proofs.Common.{◌≡◌, map, filter, take}
 use Rattle.std.specs.HashMap.{get_by_text}
 use Rattle.netlist.specs.Finish.{least}
-use Rattle.netlist.specs.Finishing.{is_unknown}
-use Rattle.netlist.specs.Maker.{output_kept}
+use Rattle.netlist.specs.Inside.LookUp.{is_unknown}
+use Rattle.netlist.specs.Inside.Maker.{output_kept}
 use Rattle.netlist.proofs.finish.first_unknown_output.Given as goal
 
 abbrev pub invariant-loop-output : goal.invariant-loop-output

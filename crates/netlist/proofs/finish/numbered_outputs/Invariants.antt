@@ -1,7 +1,7 @@
 use Rattle.std.proofs.Common.{◌≡◌, map, take}
 use Rattle.std.specs.HashMap.{get_by_text}
-use Rattle.netlist.specs.Finishing.{number_in}
-use Rattle.netlist.specs.Maker.{output_kept}
+use Rattle.netlist.specs.Inside.LookUp.{number_in}
+use Rattle.netlist.specs.Inside.Maker.{output_kept}
 use Rattle.netlist.proofs.finish.numbered_outputs.Given as goal
 
 abbrev pub invariant-loop-output : goal.invariant-loop-output

@@ -1,6 +1,6 @@
 use Rattle.std.proofs.Common.{◌≡◌, map, take, string_bytes}
 use Rattle.std.specs.HashMap.{get_by_text}
-use Rattle.netlist.specs.Finishing.{number_in}
+use Rattle.netlist.specs.Inside.LookUp.{number_in}
 use Rattle.netlist.proofs.finish.numbers_of.Given as goal
 
 abbrev pub invariant-loop-name : goal.invariant-loop-name

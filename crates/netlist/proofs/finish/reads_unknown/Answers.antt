@@ -1,7 +1,7 @@
 use Rattle.std.proofs.Common.{◌≡◌, true, false, sym, string_bytes, refl}
 use Rattle.std.specs.HashMap.{get_by_text}
-use Rattle.netlist.proofs.Calls.{none_more, some_passes}
-use Rattle.netlist.specs.Finishing.{is_unknown}
+use Rattle.netlist.proofs.LeastCalls.{none_more, some_passes}
+use Rattle.netlist.specs.Inside.LookUp.{is_unknown}
 use Rattle.netlist.proofs.finish.reads_unknown.Goals as goal
 
 pub returns-then-not-contains_key : goal.returns-then-not-contains_key

@@ -1,7 +1,7 @@
 use Rattle.std.proofs.Common.{◌≡◌, false, map, take, string_bytes}
 use Rattle.std.specs.HashMap.{get_by_text}
 use Rattle.std.specs.List.{list_any}
-use Rattle.netlist.specs.Finishing.{is_unknown}
+use Rattle.netlist.specs.Inside.LookUp.{is_unknown}
 use Rattle.netlist.proofs.finish.reads_unknown.Given as goal
 
 abbrev pub invariant-loop-input : goal.invariant-loop-input

@@ -1,5 +1,5 @@
 use Rattle.std.proofs.Common.{◌≡◌, ℕ, [], length}
-use Rattle.netlist.specs.Waiting.{list_at}
+use Rattle.netlist.specs.Inside.Waiting.{list_at}
 use Rattle.netlist.proofs.order.empty_lists.Given as goal
 
 abbrev pub invariant-loop : goal.invariant-loop

@@ -1,5 +1,5 @@
 use Rattle.std.proofs.Common.{◌<◌, length, slice_index}
-use Rattle.netlist.proofs.Waits.{note_more}
+use Rattle.netlist.proofs.Counts.{note_more}
 use Rattle.netlist.proofs.order.note_reader.Goals as goal
 
 pub loop-input-preserved : goal.loop-input-preserved

@@ -1,5 +1,5 @@
 use Rattle.std.proofs.Common.{take}
-use Rattle.netlist.specs.Waiting.{HasReader}
+use Rattle.netlist.specs.Inside.Waiting.{HasReader}
 use Rattle.netlist.proofs.order.note_reader.Given as goal
 
 abbrev pub invariant-loop-input : goal.invariant-loop-input

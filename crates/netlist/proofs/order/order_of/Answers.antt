@@ -4,9 +4,9 @@ use Rattle.std.proofs.lemmas.List.{length_push}
 use Rattle.std.proofs.lemmas.Map.Keys.{le_from_not_gt}
 use Rattle.std.specs.BTreeSet.{contains}
 use Rattle.netlist.proofs.Kahn.{kahn_first, kahn_more, topological-if_none, net-is_gate, readers_enough, readers_within, more-few, contains-none}
-use Rattle.netlist.proofs.Waits.{contains-updated, reader_counts, refilled}
+use Rattle.netlist.proofs.Counts.{contains-updated, reader_counts, refilled}
 use Rattle.circuits.specs.Circuit.{IsGate}
-use Rattle.netlist.specs.Waiting.{is_gate, count_of}
+use Rattle.netlist.specs.Inside.Waiting.{is_gate, count_of}
 use Rattle.netlist.proofs.order.order_of.Goals as goal
 
 pub loop-net-init : goal.loop-net-init

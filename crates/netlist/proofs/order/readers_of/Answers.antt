@@ -1,8 +1,8 @@
 use Rattle.std.proofs.Common.{◌≡◌, ◌≤◌, ◌∙◌, sym, ap, subst, length, arith}
 use Rattle.std.proofs.lemmas.List.Elements.{Contains-get_or}
-use Rattle.netlist.proofs.Waits.{readers_more, readers_all, refilled}
+use Rattle.netlist.proofs.Counts.{readers_more, readers_all, refilled}
 use Rattle.circuits.specs.Circuit.{net_count}
-use Rattle.netlist.specs.Waiting.{HasReader}
+use Rattle.netlist.specs.Inside.Waiting.{HasReader}
 use Rattle.netlist.proofs.order.readers_of.Goals as goal
 
 pub note_reader-requires : goal.note_reader-requires

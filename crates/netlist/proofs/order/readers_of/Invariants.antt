@@ -1,6 +1,6 @@
 use Rattle.std.proofs.Common.{◌≡◌, ℕ, ◌<◌, nat_lt, length, if◌then◌else◌}
 use Rattle.circuits.specs.Circuit.{net_count, fanin}
-use Rattle.netlist.specs.Waiting.{count_of, list_at}
+use Rattle.netlist.specs.Inside.Waiting.{count_of, list_at}
 use Rattle.netlist.proofs.order.readers_of.Given as goal
 
 abbrev pub invariant-loop-net : goal.invariant-loop-net

@@ -2,7 +2,7 @@ use Rattle.std.proofs.Common.{◌<◌, length, true, false, slice_index, refl, s
 use Rattle.std.proofs.lemmas.Bool.{eq-eqb, ne_eqb}
 use Rattle.std.specs.BTreeSet.{contains}
 use Rattle.std.specs.Ordering.{nat_cmp}
-use Rattle.netlist.proofs.Waits.{waits_for_more, released, ready_more, contains-updated}
+use Rattle.netlist.proofs.Counts.{waits_for_more, released, ready_more, contains-updated}
 use Rattle.netlist.proofs.order.release.Goals.{then-left-eq0+in_ok-insert, else-left-eq0}
 use Rattle.netlist.proofs.order.release.Goals as goal
 

@@ -1,6 +1,6 @@
 use Rattle.std.proofs.Common.{◌≡◌, ◌==◌, ℕ, ◌+◌, ◌&&◌, ◌||◌, nat_lt, nat_cmp, slice_index, take}
 use Rattle.std.specs.BTreeSet.{contains}
-use Rattle.netlist.specs.Waiting.{count_of}
+use Rattle.netlist.specs.Inside.Waiting.{count_of}
 use Rattle.netlist.proofs.order.release.Given as goal
 
 abbrev pub invariant-loop-reader : goal.invariant-loop-reader

@@ -1,5 +1,5 @@
 use Rattle.std.proofs.Common.{◌≡◌, ℕ, ◌<◌, [], length, slice_index}
-use Rattle.netlist.specs.Waiting.{open_inputs}
+use Rattle.netlist.specs.Inside.Waiting.{open_inputs}
 use Rattle.netlist.proofs.order.waiting_of.Given as goal
 
 abbrev pub invariant-loop-net : goal.invariant-loop-net

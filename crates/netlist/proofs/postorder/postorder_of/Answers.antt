@@ -1,7 +1,7 @@
 use Rattle.std.proofs.Common.{◌≡◌, ◌∙◌, ap, length, arith, false, replicate}
 use Rattle.std.proofs.lemmas.List.{length-replicate}
 use Rattle.netlist.proofs.DepthFirst.{walk_starts, order-has_seen, order-within}
-use Rattle.netlist.proofs.Waits.{zeros_at}
+use Rattle.netlist.proofs.Counts.{zeros_at}
 use Rattle.circuits.specs.Valuation.{bit_of}
 use Rattle.netlist.proofs.postorder.postorder_of.Goals as goal
 

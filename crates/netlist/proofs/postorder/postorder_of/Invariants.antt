@@ -1,5 +1,5 @@
 use Rattle.std.proofs.Common.{◌≡◌, ℕ, ◌<◌, true, []}
-use Rattle.netlist.specs.Postorder.{IsWalk}
+use Rattle.netlist.specs.Inside.Postorder.{IsWalk}
 use Rattle.circuits.specs.Valuation.{bit_of}
 use Rattle.netlist.proofs.postorder.postorder_of.Given as goal
 

@@ -1,6 +1,6 @@
 use Rattle.std.proofs.Common.{◌≡◌, ℕ, true}
 use Rattle.netlist.proofs.DepthFirst.{work}
-use Rattle.netlist.specs.Postorder.{IsWalk}
+use Rattle.netlist.specs.Inside.Postorder.{IsWalk}
 use Rattle.circuits.specs.Valuation.{bit_of}
 use Rattle.netlist.proofs.postorder.walk_from.Given as goal
 

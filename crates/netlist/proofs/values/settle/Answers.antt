@@ -1,6 +1,6 @@
-use Rattle.netlist.proofs.Reach.{topological-is_gate}
+use Rattle.netlist.proofs.ConeWalks.{topological-is_gate}
 use Rattle.circuits.proofs.Gates.{gate-sized, gate-reads_nets}
-use Rattle.netlist.proofs.Settled.{settled_more, settled-gates}
+use Rattle.netlist.proofs.OrderedValues.{settled_more, settled-gates}
 use Rattle.netlist.proofs.values.settle.Goals as goal
 
 pub gate-word-requires : goal.gate-word-requires

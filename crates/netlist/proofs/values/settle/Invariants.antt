@@ -1,4 +1,4 @@
-use Rattle.netlist.proofs.Settled.{SettledTo}
+use Rattle.netlist.proofs.OrderedValues.{SettledTo}
 use Rattle.netlist.proofs.values.settle.Given as goal
 
 -- the inputs keep their bits, and each gate that has come has its value

@@ -1,6 +1,6 @@
 use Rattle.std.proofs.Common.{◌≡◌, ◌∙◌, sym, ap, length}
 use Rattle.circuits.proofs.Rounds.{valuation-only}
-use Rattle.netlist.proofs.Waits.{refilled}
+use Rattle.netlist.proofs.Counts.{refilled}
 use Rattle.circuits.specs.Valuation.{bit_of}
 use Rattle.netlist.proofs.values.values_of.Goals as goal
 

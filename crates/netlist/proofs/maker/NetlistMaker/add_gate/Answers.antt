@@ -7,7 +7,7 @@ use Rattle.netlist.proofs.Makers.{gate_fault-is, IsKept-gate, drafted-gate}
 use Rattle.netlist.proofs.Vecs.{vec_len-map, list_any-map}
 use Rattle.netlist.specs.Draft.{Draft, gate_fault}
 use Rattle.circuits.specs.Limits.{is_long}
-use Rattle.netlist.specs.Maker.{drafted, gate_kept}
+use Rattle.netlist.specs.Inside.Maker.{drafted, gate_kept}
 use Rattle.netlist.proofs.maker.NetlistMaker.add_gate.Goals as goal
 
 -- what the code computes is the fault of the call

@@ -6,7 +6,7 @@ use Rattle.std.specs.HashSet.{contains_text}
 use Rattle.netlist.proofs.Makers.{input_fault-is, IsKept-input}
 use Rattle.netlist.proofs.Vecs.{vec_len-map}
 use Rattle.netlist.specs.Draft.{Draft, input_fault}
-use Rattle.netlist.specs.Maker.{drafted}
+use Rattle.netlist.specs.Inside.Maker.{drafted}
 use Rattle.netlist.proofs.maker.NetlistMaker.add_input.Goals as goal
 
 -- what the code computes is the fault of the call

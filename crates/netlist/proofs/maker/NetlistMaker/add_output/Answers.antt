@@ -2,7 +2,7 @@ use Rattle.std.specs.HashMap.{get_by_text}
 use Rattle.std.specs.HashSet.{contains_text}
 use Rattle.netlist.proofs.Makers.{IsKept-output}
 use Rattle.netlist.specs.Draft.{Draft}
-use Rattle.netlist.specs.Maker.{drafted}
+use Rattle.netlist.specs.Inside.Maker.{drafted}
 use Rattle.netlist.proofs.maker.NetlistMaker.add_output.Goals as goal
 
 pub invariant_of-self-2 : goal.invariant_of-self-2

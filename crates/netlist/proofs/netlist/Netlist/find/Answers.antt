@@ -4,7 +4,7 @@ use Rattle.std.specs.HashMap.{get_by_text}
 use Rattle.netlist.proofs.Sources.{place_of-found, found-within}
 use Rattle.circuits.specs.Circuit.{Circuit, Gate}
 use Rattle.circuits.specs.Names.{net_of}
-use Rattle.netlist.specs.Source.{source_net}
+use Rattle.netlist.specs.Inside.Source.{source_net}
 use Rattle.netlist.proofs.netlist.Netlist.find.Goals as goal
 
 pub net-requires : goal.net-requires

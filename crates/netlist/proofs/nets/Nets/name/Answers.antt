@@ -1,5 +1,5 @@
 use Rattle.std.proofs.Common.{◌<◌, ◌∙◌, subst, sym}
-use Rattle.netlist.proofs.Kept.{name_of-gate}
+use Rattle.netlist.proofs.KeptCircuits.{name_of-gate}
 use Rattle.circuits.specs.Circuit.{net_count}
 use Rattle.netlist.proofs.nets.Nets.name.Goals as goal
 

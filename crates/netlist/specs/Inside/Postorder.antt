@@ -3,7 +3,7 @@ use Rattle.std.specs.Prelude.{◌≡◌, ℕ, ◌+◌, ◌<◌, ◌≤◌, ◌�
 use Rattle.circuits.specs.Circuit.{Circuit, net_count, fanin}
 use Rattle.circuits.specs.Order.{IsInput, Reaches, is_among}
 use Rattle.circuits.specs.Valuation.{bit_of}
-use Rattle.netlist.specs.Waiting.{count_of}
+use Rattle.netlist.specs.Inside.Waiting.{count_of}
 use Rattle.netlist.specs.declared.postorder.Visit.{Visit}
 
 -- what the net and those before it read is not after the net, or reaches the net in turn

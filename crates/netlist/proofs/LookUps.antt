@@ -9,22 +9,22 @@ use Rattle.std.proofs.lemmas.List.{length-map, get_or_append_left, get_or-append
 use Rattle.std.proofs.lemmas.List.Elements.{All-map, All-weaker, Contains-get_or}
 use Rattle.std.proofs.lemmas.Map.Keys.{IsDistinct-from_apart, any_passes_from_place}
 use Rattle.std.proofs.lemmas.Option.{slice_get-get_or, get_or_from_slice_get, slice_get-map, slice_get_cases}
-use Rattle.netlist.proofs.Calls.{least-append, none_least, earliest-None}
+use Rattle.netlist.proofs.LeastCalls.{least-append, none_least, earliest-None}
 use Rattle.circuits.proofs.Gates.{IsGate-from_input, gate_of-at}
 use Rattle.circuits.proofs.Members.{Contains-head, Contains-cases}
 use Rattle.netlist.proofs.Makers.{is_some-is_defined}
 use Rattle.netlist.proofs.Sources.{same-from_bytes_eq, place_of-found, found-within}
 use Rattle.circuits.specs.Circuit.{Gate, IsGate, net_count, gate_of}
 use Rattle.netlist.specs.Draft.{Draft, GateLine, OutputLine, draft_names, is_defined}
-use Rattle.netlist.specs.Finish.{number, numbered, circuit_of, least, is_undefined, undefined_calls, undefined_fault, cycle_fault, finish_fault}
+use Rattle.netlist.specs.Finish.{number, circuit_of, least, is_undefined, undefined_calls, undefined_fault, cycle_fault, finish_fault, numbered_by, circuit_by, calls_naming}
 use Rattle.netlist.specs.Fault.{fault}
 use Rattle.netlist.specs.declared.fault.NetCause.TheVariants.{UndefinedNet}
-use Rattle.netlist.specs.Finishing.{is_unknown, earliest, number_in, numbered_in, circuit_in, HasSmallNets}
+use Rattle.netlist.specs.Inside.LookUp.{is_unknown, number_in, circuit_in, HasSmallNets}
 use Rattle.circuits.specs.Limits.{AcceptsArity, IsSizedGate}
-use Rattle.netlist.specs.Maker.{IsKept, IsSizedLine}
+use Rattle.netlist.specs.Inside.Maker.{IsKept, IsSizedLine}
 use Rattle.circuits.specs.Sound.{IsSound}
 use Rattle.circuits.specs.Order.{IsInput}
-use Rattle.netlist.specs.Source.{name_at, source_net, FindsNames}
+use Rattle.netlist.specs.Inside.Source.{name_at, source_net, FindsNames}
 use Rattle.netlist.specs.declared.source.Source.{Source}
 use Rattle.netlist.specs.declared.source.Source.TheVariants.{Input, Gate as At_gate}
 
@@ -79,11 +79,8 @@ module _ (d : Draft) (found : List ℕ → Option Source) (is_named : List ℕ �
   pub number_is : number_in (length d.inputs) found ≡ number d
   number_is = λ i. λ name. number_at name i
 
-  pub numbered_is : numbered_in (length d.inputs) found ≡ numbered d
-  numbered_is = ap (λ f (line : GateLine). record { name = line.name; word = line.word; inputs = map f line.inputs }) number_is
-
   pub circuit_is : circuit_in d found ≡ circuit_of d
-  circuit_is = ap (λ f. record { inputs = d.inputs; gates = map (λ (line : GateLine). record { name = line.name; word = line.word; inputs = map f line.inputs }) d.gates; outputs = map (λ (line : OutputLine). f line.name) d.outputs }) number_is
+  circuit_is = ap (λ f. circuit_by f d) number_is
 
   -- the numbers are small
   pub small_nets : HasSmallNets (length d.inputs) found
@@ -95,14 +92,12 @@ module _ (d : Draft) (found : List ℕ → Option Source) (is_named : List ℕ �
   pub sources-kept : FindsNames (circuit_of d).inputs (map (λ gate. gate.name) (circuit_of d).gates) found
   sources-kept = subst (λ names. FindsNames d.inputs names found) (sym (names-kept d.gates)) kept.sources
     where
-      names-kept : (lines : List GateLine) → map (λ (gate : Gate). gate.name) (map (numbered d) lines) ≡ map (λ (line : GateLine). line.name) lines
+      names-kept : (lines : List GateLine) → map (λ (gate : Gate). gate.name) (map (numbered_by (number d)) lines) ≡ map (λ (line : GateLine). line.name) lines
       names-kept [] = refl
       names-kept (line ∷ lines) = ap (λ names. line.name ∷ names) (names-kept lines)
 
-  pub undefined_is : earliest (least (map (λ line. line.call) (filter (λ line. list_any (is_unknown found) line.inputs) d.gates))) (least (map (λ line. line.call) (filter (λ line. is_unknown found line.name) d.outputs))) ≡ least (undefined_calls d)
-  undefined_is =
-      ap (λ u. earliest (least (map (λ (line : GateLine). line.call) (filter (λ line. list_any u line.inputs) d.gates))) (least (map (λ (line : OutputLine). line.call) (filter (λ line. u line.name) d.outputs)))) unknown_is
-      ∙ sym (least-append (map (λ line. line.call) (filter (λ line. list_any (is_undefined d) line.inputs) d.gates)) (map (λ line. line.call) (filter (λ line. is_undefined d line.name) d.outputs)))
+  pub undefined_is : least (calls_naming (is_unknown found) d.gates d.outputs) ≡ least (undefined_calls d)
+  undefined_is = ap (λ test. least (calls_naming test d.gates d.outputs)) unknown_is
 
   number_within : (name : List ℕ) → is_undefined d name ≡ false → number d name < net_count (circuit_of d)
   unfolding gate_names
@@ -112,7 +107,7 @@ module _ (d : Draft) (found : List ℕ → Option Source) (is_named : List ℕ �
       by_source (Some s) is =
           let low = found-within d.inputs gate_names found kept.sources distinct name s is in
           let same : number d name ≡ source_net (length d.inputs) s = sym (number_at name) ∙ ap (λ o. option_map_or (source_net (length d.inputs)) o 0) is in
-          omega (arith, low, same, length-map d.gates (λ (line : GateLine). line.name), length-map d.gates (numbered d))
+          omega (arith, low, same, length-map d.gates (λ (line : GateLine). line.name), length-map d.gates (numbered_by (number d)))
       by_source None is = absurd (both_ways (is_defined d name) (sym (is_some-is_defined d found is_named kept name) ∙ ap is_some is) (not-false (is_defined d name) known))
 
   module _ (none : least (undefined_calls d) ≡ None) where
@@ -127,13 +122,13 @@ module _ (d : Draft) (found : List ℕ → Option Source) (is_named : List ℕ �
     reads : (net input : ℕ) → IsInput (circuit_of d) net input → input < net_count (circuit_of d)
     reads net input is =
         let gate : IsGate (circuit_of d) net = IsGate-from_input (circuit_of d) net input is in
-        let within : net - length d.inputs < length d.gates = omega (arith, gate.0, gate.1, length-map d.gates (numbered d)) in
+        let within : net - length d.inputs < length d.gates = omega (arith, gate.0, gate.1, length-map d.gates (numbered_by (number d))) in
         by_line (slice_get d.gates (net - length d.inputs)) refl gate within
       where
         by_line : (o : Option GateLine) → slice_get d.gates (net - length d.inputs) ≡ o → IsGate (circuit_of d) net → net - length d.inputs < length d.gates → input < net_count (circuit_of d)
         by_line None e gate within = ⊎_elim (λ some. absurd (let f = some.2 in cc)) (λ past. absurd (omega (arith, within, past.0))) (slice_get_cases d.gates (net - length d.inputs)).1
         by_line (Some line) e gate within =
-            let at : gate_of (circuit_of d) net ≡ Some (numbered d line) = gate_of-at (circuit_of d) net gate.0 ∙ (slice_get-map (numbered d) d.gates (net - length d.inputs) ∙ ap (λ o. option_map (numbered d) o) e) in
+            let at : gate_of (circuit_of d) net ≡ Some (numbered_by (number d) line) = gate_of-at (circuit_of d) net gate.0 ∙ (slice_get-map (numbered_by (number d)) d.gates (net - length d.inputs) ∙ ap (λ o. option_map (numbered_by (number d)) o) e) in
             let has : Contains (map (number d) line.inputs) input = subst (λ o. Contains (option_map_or (λ (g : Gate). g.inputs) o []) input) at is in
             let from = Contains-map (number d) line.inputs input has in
             let in_gates : Contains d.gates line = (net - length d.inputs, within, get_or_from_slice_get d.gates (net - length d.inputs) line line e) in
@@ -143,23 +138,23 @@ module _ (d : Draft) (found : List ℕ → Option Source) (is_named : List ℕ �
     circuit-sound = record {
       limits = record {
         inputs = kept.inputs;
-        gates = omega (arith, kept.gates, length-map d.gates (numbered d));
+        gates = omega (arith, kept.gates, length-map d.gates (numbered_by (number d)));
         each_input = kept.each_input;
-        each_gate = All-map IsSizedGate (numbered d) d.gates (All-weaker IsSizedLine (λ line. IsSizedGate (numbered d line)) (λ line sized. sized_gate line sized) d.gates kept.each_gate);
+        each_gate = All-map IsSizedGate (numbered_by (number d)) d.gates (All-weaker IsSizedLine (λ line. IsSizedGate (numbered_by (number d) line)) (λ line sized. sized_gate line sized) d.gates kept.each_gate);
       };
       names = subst (λ names. IsDistinct bytes_eq (d.inputs ++ names)) (sym (names-same d.gates)) distinct;
       inputs = reads;
       outputs = All-map (λ n. n < net_count (circuit_of d)) (λ (line : OutputLine). number d line.name) d.outputs (All-from_contains d.outputs (λ line has. number_within line.name (none_least (λ (line : OutputLine). is_undefined d line.name) (λ line. line.call) d.outputs parts.1 line has)));
     }
       where
-        sized_gate : (line : GateLine) → IsSizedLine line → IsSizedGate (numbered d line)
+        sized_gate : (line : GateLine) → IsSizedLine line → IsSizedGate (numbered_by (number d) line)
         sized_gate line sized = record {
           name = sized.name;
           arity = subst (λ n. AcceptsArity line.word n) (sym (length-map line.inputs (number d))) sized.arity;
           fanin = omega (arith, sized.fanin, length-map line.inputs (number d));
         }
 
-        names-same : (lines : List GateLine) → map (λ (gate : Gate). gate.name) (map (numbered d) lines) ≡ map (λ (line : GateLine). line.name) lines
+        names-same : (lines : List GateLine) → map (λ (gate : Gate). gate.name) (map (numbered_by (number d)) lines) ≡ map (λ (line : GateLine). line.name) lines
         names-same [] = refl
         names-same (line ∷ lines) = ap (λ names. line.name ∷ names) (names-same lines)
 

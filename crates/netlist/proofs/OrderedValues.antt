@@ -7,7 +7,7 @@ use Rattle.std.proofs.lemmas.Map.Keys.{apart_from_distinct}
 use Rattle.std.proofs.lemmas.Option.{slice_get-get_or}
 use Rattle.circuits.proofs.Gates.{Stands-from_gate_of, fanin-of_gate}
 use Rattle.circuits.proofs.Topological.{topological-complete}
-use Rattle.netlist.proofs.Reach.{topological-is_gate}
+use Rattle.netlist.proofs.ConeWalks.{topological-is_gate}
 use Rattle.circuits.proofs.Members.{Contains-head}
 use Rattle.circuits.specs.Circuit.{Circuit, Gate, IsGate, input_count, net_count, gate_of}
 use Rattle.circuits.specs.Order.{IsInput, IsAccepted, IsTopologicalOrder, topological}

@@ -4,7 +4,7 @@ use Rattle.std.specs.declared.alloc.Global.{Global}
 use Rattle.netlist.specs.Draft.{Draft, GateLine, OutputLine, is_output}
 use Rattle.circuits.specs.Limits.{AcceptsArity, IsShort}
 use Rattle.circuits.specs.declared.limits.TheConstants.{MOST_INPUTS, MOST_GATES, MOST_FANIN}
-use Rattle.netlist.specs.Source.{FindsNames}
+use Rattle.netlist.specs.Inside.Source.{FindsNames}
 use Rattle.netlist.specs.declared.draft.DraftGate.{DraftGate}
 use Rattle.netlist.specs.declared.draft.DraftOutput.{DraftOutput}
 use Rattle.netlist.specs.declared.source.Source.{Source}

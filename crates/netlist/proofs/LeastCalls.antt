@@ -11,8 +11,8 @@ use Rattle.std.proofs.lemmas.List.Elements.{filter-append}
 use Rattle.std.proofs.lemmas.List.Folds.{list_any-append}
 use Rattle.std.proofs.lemmas.Map.Keys.{any_passes_from_place}
 use Rattle.std.proofs.lemmas.Option.{slice_get-get_or, slice_get-map}
-use Rattle.netlist.specs.Finish.{least}
-use Rattle.netlist.specs.Finishing.{earliest, call_at}
+use Rattle.netlist.specs.Finish.{least, call_of}
+use Rattle.netlist.specs.Inside.LookUp.{earliest}
 
 min-assoc : (x y z : ℕ) → min x (min y z) ≡ min (min x y) z
 min-assoc x y z = omega arith
@@ -91,12 +91,12 @@ range-push a n = ap (range_with_len a) (add-one n) ∙ by_count a n
 
 -- one gate more
 pub cycles_more : (p : ℕ → Bool) (inputs : ℕ) (lines : List GateLine) (place : ℕ) (line : GateLine) (b : Bool) → slice_get lines place ≡ Some line → p (inputs + place) ≡ b
-    → least (map (call_at inputs lines) (filter p (range_with_len inputs (place + 1)))) ≡ earliest (least (map (call_at inputs lines) (filter p (range_with_len inputs place)))) (if b then Some line.call else None)
+    → least (map (call_of inputs lines) (filter p (range_with_len inputs (place + 1)))) ≡ earliest (least (map (call_of inputs lines) (filter p (range_with_len inputs place)))) (if b then Some line.call else None)
 cycles_more p inputs lines place line b at passes =
     let back : inputs + place - inputs ≡ place = omega arith in
-    let call : call_at inputs lines (inputs + place) ≡ line.call = ap (λ k. option_map_or (λ (l : GateLine). l.call) (slice_get lines k) 0) back ∙ ap (λ o. option_map_or (λ (l : GateLine). l.call) o 0) at in
-    one_more p (call_at inputs lines) (range_with_len inputs place) (range_with_len inputs (place + 1)) (inputs + place) b (range-push inputs place) passes
-    ∙ ap (λ n. earliest (least (map (call_at inputs lines) (filter p (range_with_len inputs place)))) (if b then Some n else None)) call
+    let call : call_of inputs lines (inputs + place) ≡ line.call = ap (λ k. option_map_or (λ (l : GateLine). l.call) (slice_get lines k) 0) back ∙ ap (λ o. option_map_or (λ (l : GateLine). l.call) o 0) at in
+    one_more p (call_of inputs lines) (range_with_len inputs place) (range_with_len inputs (place + 1)) (inputs + place) b (range-push inputs place) passes
+    ∙ ap (λ n. earliest (least (map (call_of inputs lines) (filter p (range_with_len inputs place)))) (if b then Some n else None)) call
 
 pub earliest-None : (a b : Option ℕ) → earliest a b ≡ None → (a ≡ None) × (b ≡ None)
 earliest-None None b e = (refl, e)

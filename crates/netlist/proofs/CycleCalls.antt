@@ -3,14 +3,14 @@ use Rattle.std.specs.Prelude.{◌≡◌, ℕ, true, List, length, None}
 use Rattle.std.proofs.Common.{⊎_elim, inl, inr}
 use Rattle.std.proofs.lemmas.Bool.{both_ways, false_from_ne_true}
 use Rattle.circuits.proofs.Accepted.{accepted-iff_full, reader_is_gate}
-use Rattle.netlist.proofs.Calls.{none_least, least-if_none}
+use Rattle.netlist.proofs.LeastCalls.{none_least, least-if_none}
 use Rattle.circuits.proofs.Cones.{is_in_cone-reached}
 use Rattle.circuits.proofs.Members.{Contains-gate_nets}
 use Rattle.circuits.specs.Circuit.{Circuit, input_count, gate_nets, fanin}
 use Rattle.circuits.specs.Cone.{IsReachedFrom}
 use Rattle.netlist.specs.Draft.{GateLine}
 use Rattle.circuits.specs.Cone.{reaches_itself}
-use Rattle.netlist.specs.Finishing.{call_at, cycle_call}
+use Rattle.netlist.specs.Finish.{call_of, least, calls_on_cycles}
 use Rattle.circuits.specs.Sound.{IsSound}
 use Rattle.circuits.specs.Order.{IsAccepted, Reaches, step, steps, topological}
 
@@ -25,15 +25,15 @@ from_reaches (steps {input = input} has rest) = inr (input, has, rest)
 pub on_cycle-from : (c : Circuit) (net : ℕ) → Reaches c net net → reaches_itself c net ≡ true
 on_cycle-from c net circle = (is_in_cone-reached c (fanin c net) net).1 (from_reaches circle)
 
-pub accepted-from_none : (c : Circuit) (lines : List GateLine) → IsSound c → cycle_call c lines ≡ None → IsAccepted c
+pub accepted-from_none : (c : Circuit) (lines : List GateLine) → IsSound c → least (calls_on_cycles c lines) ≡ None → IsAccepted c
 accepted-from_none c lines sound none = record {
   inputs = sound.inputs;
   outputs = sound.outputs;
   no_cycle = λ net circle.
-      both_ways (reaches_itself c net) (none_least (reaches_itself c) (call_at (input_count c) lines) (gate_nets c) none net (Contains-gate_nets c net (reader_is_gate circle))) (on_cycle-from c net circle);
+      both_ways (reaches_itself c net) (none_least (reaches_itself c) (call_of (input_count c) lines) (gate_nets c) none net (Contains-gate_nets c net (reader_is_gate circle))) (on_cycle-from c net circle);
 }
 
-pub none-from_full : (c : Circuit) (lines : List GateLine) → IsSound c → length (topological c) ≡ length c.gates → cycle_call c lines ≡ None
+pub none-from_full : (c : Circuit) (lines : List GateLine) → IsSound c → length (topological c) ≡ length c.gates → least (calls_on_cycles c lines) ≡ None
 none-from_full c lines sound full =
     let accepted : IsAccepted c = (accepted-iff_full c sound.outputs).1 full in
-    least-if_none (reaches_itself c) (call_at (input_count c) lines) (gate_nets c) (λ net has. false_from_ne_true (reaches_itself c net) (λ on. accepted.no_cycle net (circle-from c net on)))
+    least-if_none (reaches_itself c) (call_of (input_count c) lines) (gate_nets c) (λ net has. false_from_ne_true (reaches_itself c net) (λ on. accepted.no_cycle net (circle-from c net on)))

@@ -10,7 +10,7 @@ use Rattle.circuits.proofs.Members.{among-from_Contains}
 use Rattle.circuits.proofs.Topological.{begins_first}
 use Rattle.circuits.specs.Circuit.{Circuit, IsGate, net_count, fanin}
 use Rattle.circuits.specs.Cone.{IsReachedFrom, is_in_cone}
-use Rattle.netlist.specs.Leads.{Leads, at_once, by_way}
+use Rattle.netlist.specs.Inside.Leads.{Leads, at_once, by_way}
 use Rattle.circuits.specs.Order.{IsInput, Reaches, step, steps, is_among, topological}
 use Rattle.circuits.specs.Valuation.{bit_of}
 

@@ -4,7 +4,7 @@ use Rattle.std.specs.declared.alloc.Global.{Global}
 use Rattle.std.proofs.Common.{sym, ◌∙◌, ap, arith}
 use Rattle.std.proofs.lemmas.List.{length-map, get_or-append_right, get_or-map}
 use Rattle.circuits.specs.Circuit.{net_count, name_of}
-use Rattle.netlist.specs.Kept.{net_gate_kept, circuit_kept}
+use Rattle.netlist.specs.Inside.Kept.{net_gate_kept, circuit_kept}
 use Rattle.netlist.specs.declared.nets.NetGate.{NetGate}
 
 -- the name of a gate's net

@@ -4,17 +4,17 @@ use Rattle.std.specs.declared.alloc.Global.{Global}
 use Rattle.std.specs.declared.vec.Vec.{Vec}
 use Rattle.std.proofs.Common.{sym, ◌∙◌, ap, subst, inl, inr, ⊎_elim, arith}
 use Rattle.std.proofs.lemmas.Bool.{cases_Bool, both_ways, false_from_ne_true}
-use Rattle.netlist.proofs.Circles.{last_of, comes_back, listed-reads, reaches_from_leads, leads_from_reaches, reaches_through}
-use Rattle.netlist.proofs.Cycles.{circle-from, on_cycle-from}
+use Rattle.netlist.proofs.Postorders.{last_of, comes_back, listed-reads, reaches_from_leads, leads_from_reaches, reaches_through}
+use Rattle.netlist.proofs.CycleCalls.{circle-from, on_cycle-from}
 use Rattle.circuits.proofs.Gates.{IsGate-from_input}
 use Rattle.circuits.proofs.Members.{among_push, among-append_left}
 use Rattle.circuits.specs.Circuit.{Circuit, IsGate, net_count}
 use Rattle.circuits.specs.Cone.{reaches_itself}
-use Rattle.netlist.specs.Leads.{Leads, IsClosed}
+use Rattle.netlist.specs.Inside.Leads.{Leads, IsClosed}
 use Rattle.circuits.specs.Order.{IsInput, Reaches, step, steps, is_among}
-use Rattle.netlist.specs.Postorder.{IsPostorder, ComesAfter}
+use Rattle.netlist.specs.Inside.Postorder.{IsPostorder, ComesAfter}
 use Rattle.circuits.specs.Valuation.{bit_of}
-use Rattle.netlist.specs.Waiting.{CountsReaders, list_at}
+use Rattle.netlist.specs.Inside.Waiting.{CountsReaders, list_at}
 
 -- what reads a settled net is settled, the rest is in the order, and of each settled net it is known whether it is on a cycle
 pub record Settling (c : Circuit) (order : List ℕ) (settled alone : List Bool) : Type 0 where

@@ -5,16 +5,16 @@ use Rattle.std.specs.declared.vec.Vec.{Vec}
 use Rattle.std.proofs.Common.{sym, ◌∙◌, ap, subst, inl, inr, ⊎_elim, arith, eqb-true}
 use Rattle.std.proofs.lemmas.Bool.{cases_Bool, cases_lt, both_ways, false≢true, false_from_ne_true, or_cases}
 use Rattle.std.proofs.lemmas.List.{append_assoc, length_push, same_from_push}
-use Rattle.netlist.proofs.DepthFirst.{count-from_among, among-from_count}
+use Rattle.netlist.proofs.Counts.{count-from_among, among-from_count}
 use Rattle.circuits.proofs.Descent.{reaches_on}
 use Rattle.netlist.proofs.Marking.{leads_on}
 use Rattle.circuits.proofs.Members.{Contains-from_among, among-from_Contains, Contains-nil, among-append, among-append_left, among-append_right}
-use Rattle.netlist.proofs.Waits.{list_at-past}
+use Rattle.netlist.proofs.Counts.{list_at-past}
 use Rattle.circuits.specs.Circuit.{Circuit, net_count, fanin}
-use Rattle.netlist.specs.Leads.{Leads, at_once, by_way}
+use Rattle.netlist.specs.Inside.Leads.{Leads, at_once, by_way}
 use Rattle.circuits.specs.Order.{IsInput, Reaches, step, steps, is_among}
-use Rattle.netlist.specs.Postorder.{ComesAfter, IsPostorder, none, more}
-use Rattle.netlist.specs.Waiting.{CountsReaders, list_at}
+use Rattle.netlist.specs.Inside.Postorder.{ComesAfter, IsPostorder, none, more}
+use Rattle.netlist.specs.Inside.Waiting.{CountsReaders, list_at}
 
 pub reaches_through : {c : Circuit} {net via to : ℕ} → Reaches c net via → Reaches c via to → Reaches c net to
 reaches_through (step first) rest = steps first rest

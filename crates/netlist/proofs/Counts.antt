@@ -1,5 +1,5 @@
 -- Counts of nets in lists, and sets of nets.
-use Rattle.std.specs.Prelude.{◌≡◌, ◌≢◌, ℕ, zero, suc, replicate, ◌+◌, ◌-◌, ◌<◌, ◌≤◌, ◌==◌, ◌⊎◌, Bool, true, false, cond, ◌&&◌, ◌||◌, List, [], ◌∷◌, ◌++◌, length, take, drop, nat_eq, nat_lt, filter, get_or, if◌then◌else◌, refl}
+use Rattle.std.specs.Prelude.{◌≡◌, ◌≢◌, ℕ, zero, suc, replicate, ◌+◌, ◌-◌, ◌<◌, ◌≤◌, ◌==◌, ◌⊎◌, Bool, true, false, cond, ◌&&◌, ◌||◌, List, [], ◌∷◌, ◌++◌, length, take, drop, Contains, nat_eq, nat_lt, filter, get_or, if◌then◌else◌, refl}
 use Rattle.std.specs.BTreeSet.{BTreeSet, contains, Updates}
 use Rattle.std.specs.BTreeMap.{is_at}
 use Rattle.std.specs.Cmp.{eq_by_cmp_equiv}
@@ -14,11 +14,13 @@ use Rattle.std.proofs.lemmas.List.{get_or-set_same, get_or-set_other, length-set
 use Rattle.std.proofs.lemmas.List.Elements.{filter-append}
 use Rattle.std.proofs.lemmas.Option.{slice_get-get_or, slice_get_past, get_or_from_slice_get}
 use Rattle.std.proofs.Math.Seq.{take-append_seam}
-use Rattle.std.proofs.lemmas.List.Sums.{count_by_more_yes, count_by_more_no, sum_by-take-le, sum_by-append}
+use Rattle.std.proofs.lemmas.List.Sums.{count_by_more_yes, count_by_more_no, sum_by-cons, sum_by-take-le, sum_by-append}
 use Rattle.std.proofs.lemmas.Map.Views.{tells_apart}
 use Rattle.std.proofs.lemmas.Map.Lookups.{exact_unsigned}
+use Rattle.circuits.proofs.Members.{Contains-from_among, among-from_Contains, Contains-head, Contains-cases}
 use Rattle.circuits.specs.Circuit.{Circuit, net_count, input_count, fanin}
-use Rattle.netlist.specs.Waiting.{count_of, list_at, HasReader, CountsReaders}
+use Rattle.circuits.specs.Order.{is_among}
+use Rattle.netlist.specs.Inside.Waiting.{count_of, list_at, HasReader, CountsReaders}
 
 -- the order of numbers finds equal ones
 pub is_at-nat : (a b : ℕ) → is_at (nat_cmp a) b ≡ nat_eq a b
@@ -237,3 +239,30 @@ zeros_at (suc n) (suc i) = zeros_at n i
 
 pub filter_more : (p : ℕ → Bool) (xs : List ℕ) (i : ℕ) → i < length xs → filter p (take (i + 1) xs) ≡ filter p (take i xs) ++ (if p (get_or xs i 0) then get_or xs i 0 ∷ [] else [])
 filter_more p xs i low = ap (filter p) (take_more xs i 0 low) ∙ filter-append p (take i xs) (get_or xs i 0 ∷ [])
+
+-- a net that is counted is in the list
+pub count_of-cons : (x : ℕ) (xs : List ℕ) (y : ℕ) → count_of (x ∷ xs) y ≡ cond (nat_eq y x) 1 0 + count_of xs y
+count_of-cons x xs y = sum_by-cons (λ z. cond (nat_eq y z) 1 0) x xs
+
+pub Contains-from_count : (xs : List ℕ) (y : ℕ) → 0 < count_of xs y → Contains xs y
+Contains-from_count [] y some = absurd (omega arith)
+Contains-from_count (x ∷ xs) y some = ⊎_elim
+    (λ same. subst (λ z. Contains (x ∷ xs) z) (sym (eqb-true y x same)) (Contains-head x xs))
+    (λ other.
+    let none = cond-false {A = ℕ} (nat_eq y x) 1 0 other in
+    let there : Contains xs y = Contains-from_count xs y (omega (arith, count_of-cons x xs y, none)) in
+    (suc there.0, omega (arith, there.1), there.2))
+    (cases_Bool (nat_eq y x))
+
+pub count-from_Contains : (xs : List ℕ) (y : ℕ) → Contains xs y → 0 < count_of xs y
+count-from_Contains [] y has = absurd (let low = has.1 in omega arith)
+count-from_Contains (x ∷ xs) y has = ⊎_elim
+    (λ same. let one = cond-true {A = ℕ} (nat_eq y x) 1 0 (eq-eqb y x (sym same)) in omega (arith, count_of-cons x xs y, one))
+    (λ later. omega (arith, count_of-cons x xs y, count-from_Contains xs y later))
+    (Contains-cases x xs y has)
+
+pub count-from_among : (xs : List ℕ) (x : ℕ) → is_among xs x ≡ true → 0 < count_of xs x
+count-from_among xs x found = count-from_Contains xs x (Contains-from_among xs x found)
+
+pub among-from_count : (xs : List ℕ) (x : ℕ) → 0 < count_of xs x → is_among xs x ≡ true
+among-from_count xs x some = among-from_Contains xs x (Contains-from_count xs x some)
