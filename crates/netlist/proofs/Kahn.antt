@@ -4,7 +4,7 @@ use Rattle.std.specs.BTreeMap.{is_at}
 use Rattle.std.specs.BTreeSet.{BTreeSet, contains}
 use Rattle.std.specs.Ordering.{nat_cmp}
 use Rattle.std.specs.List.{list_any, list_all, range_with_len}
-use Rattle.std.proofs.Common.{sym, ◌∙◌, ap, subst, ⊎_elim, arith, eqb-true}
+use Rattle.std.proofs.Common.{sym, ◌∙◌, ap, subst, ⊎_elim, arith}
 use Rattle.std.proofs.lemmas.Bool.{cases_Bool, cases_eq, cases_lt, both_ways, cond-true, cond-false, and_parts, and_from, eq-eqb, ne_eqb, lt-ltb, le-ltb, le-leb, leb-true, ltb-true, false_from_ne_true}
 use Rattle.std.proofs.lemmas.List.{append-nil, length_push, length-take, get_or-take}
 use Rattle.std.proofs.lemmas.Option.{slice_get-get_or}
@@ -12,7 +12,7 @@ use Rattle.std.proofs.lemmas.List.Folds.{list_any-append}
 use Rattle.std.proofs.lemmas.List.Sums.{sum_by-cons}
 use Rattle.std.proofs.lemmas.List.Elements.{Contains-get_or}
 use Rattle.circuits.proofs.Gates.{IsGate-from_input}
-use Rattle.circuits.proofs.Members.{Contains-from_among, among-from_Contains, Contains-head, Contains-cases, find-Some, find-None, Contains-gate_nets, IsGate-from_gate_nets, length-gates}
+use Rattle.circuits.proofs.Members.{Contains-from_among, among-from_Contains, Contains-head, find-Some, find-None, Contains-gate_nets, IsGate-from_gate_nets, length-gates}
 use Rattle.circuits.proofs.Topological.{Begins, begins_first, Next, Next-from_is_next}
 use Rattle.netlist.proofs.Counts.{fanin-past, count_of-cons, Contains-from_count, count-from_Contains}
 use Rattle.circuits.specs.Circuit.{Circuit, IsGate, input_count, net_count, gate_nets, fanin}

@@ -1,18 +1,20 @@
 -- The least of the calls of some lines.
-use Rattle.std.specs.Prelude.{◌≡◌, ℕ, zero, suc, ◌+◌, ◌-◌, ◌<◌, Contains, min, Bool, true, false, List, [], ◌∷◌, ◌++◌, length, map, filter, take, get_or, slice_get, Option, Some, None, if◌then◌else◌, refl}
-use Rattle.std.specs.List.{list_any, range_with_len}
-use Rattle.std.specs.Option.{option_map, option_map_or}
+use Rattle.std.specs.Prelude.{◌≡◌, ℕ, zero, suc, ◌+◌, ◌-◌, Contains, min, Bool, true, false, List, [], ◌∷◌, ◌++◌, map, filter, slice_get, Option, Some, None, if◌then◌else◌, fold, string_bytes, refl}
+use Rattle.std.specs.List.{list_any, range_with_len, reduce}
+use Rattle.std.specs.Option.{option_map_or}
 use Rattle.std.proofs.Common.{sym, ◌∙◌, ap, subst, ⊎_elim, arith, add-one}
 use Rattle.std.proofs.lemmas.Bool.{cases_Bool, cond-true, cond-false}
 use Rattle.circuits.proofs.Members.{Contains-nil, Contains-cases, Contains-head}
-use Rattle.netlist.specs.Draft.{GateLine}
-use Rattle.std.proofs.lemmas.List.{take_more, map_push, map-append}
+use Rattle.netlist.proofs.Vecs.{list_any-map}
+use Rattle.netlist.specs.Draft.{GateLine, OutputLine}
+use Rattle.netlist.specs.Inside.Maker.{gate_kept, output_kept}
+use Rattle.netlist.specs.declared.draft.DraftGate.{DraftGate}
+use Rattle.netlist.specs.declared.draft.DraftOutput.{DraftOutput}
+use Rattle.netlist.specs.declared.source.Source.{Source}
+use Rattle.std.proofs.lemmas.List.{map-append}
 use Rattle.std.proofs.lemmas.List.Elements.{filter-append}
-use Rattle.std.proofs.lemmas.List.Folds.{list_any-append}
-use Rattle.std.proofs.lemmas.Map.Keys.{any_passes_from_place}
-use Rattle.std.proofs.lemmas.Option.{slice_get-get_or, slice_get-map}
-use Rattle.netlist.specs.Finish.{least, call_of}
-use Rattle.netlist.specs.Inside.LookUp.{earliest}
+use Rattle.netlist.specs.Finish.{least, call_of, calls_naming}
+use Rattle.netlist.specs.Inside.LookUp.{is_unknown, unknown_calls, earliest}
 
 min-assoc : (x y z : ℕ) → min x (min y z) ≡ min (min x y) z
 min-assoc x y z = omega arith
@@ -33,28 +35,6 @@ module _ {X Y : Type 0} (f : X → Y) (p : Y → Bool) (g : Y → ℕ) where
       by_cases : (b : Bool) → least (map g (if b then y ∷ [] else [])) ≡ (if b then Some (g y) else None)
       by_cases true = refl
       by_cases false = refl
-
-  -- one line more
-  pub calls_more : (xs : List X) (i : ℕ) (x : X) (b : Bool) → i < length xs → x ≡ get_or xs i x → p (f x) ≡ b
-      → least (map g (filter p (map f (take (i + 1) xs)))) ≡ earliest (least (map g (filter p (map f (take i xs))))) (if b then Some (g (f x)) else None)
-  calls_more xs i x b low is passes =
-      let split : map f (take (i + 1) xs) ≡ map f (take i xs) ++ f x ∷ [] = ap (map f) (take_more xs i x low) ∙ (map_push f (take i xs) (get_or xs i x) ∙ ap (λ z. map f (take i xs) ++ f z ∷ []) (sym is)) in
-      ap (λ ys. least (map g (filter p ys))) split
-      ∙ (ap (λ ys. least (map g ys)) (filter-append p (map f (take i xs)) (f x ∷ []))
-      ∙ (ap least (map-append g (filter p (map f (take i xs))) (filter p (f x ∷ [])))
-      ∙ (least-append (map g (filter p (map f (take i xs)))) (map g (filter p (f x ∷ [])))
-      ∙ ap (earliest (least (map g (filter p (map f (take i xs)))))) (one_call (f x) b passes))))
-
-  -- no name more that passes
-  pub none_more : (xs : List X) (i : ℕ) (x : X) → i < length xs → x ≡ get_or xs i x → p (f x) ≡ false → list_any p (map f (take i xs)) ≡ false → list_any p (map f (take (i + 1) xs)) ≡ false
-  none_more xs i x low is fails none =
-      let split : map f (take (i + 1) xs) ≡ map f (take i xs) ++ f x ∷ [] = ap (map f) (take_more xs i x low) ∙ (map_push f (take i xs) (get_or xs i x) ∙ ap (λ z. map f (take i xs) ++ f z ∷ []) (sym is)) in
-      ap (list_any p) split ∙ (list_any-append p (map f (take i xs)) (f x ∷ []) ∙ rw (none, fails) refl)
-
-  pub some_passes : (xs : List X) (i : ℕ) (x : X) → i < length xs → x ≡ get_or xs i x → p (f x) ≡ true → list_any p (map f xs) ≡ true
-  some_passes xs i x low is passes =
-      let at : slice_get (map f xs) i ≡ Some (f x) = slice_get-map f xs i ∙ ap (λ o. option_map f o) (slice_get-get_or xs i x low ∙ ap Some (sym is)) in
-      any_passes_from_place p (map f xs) i (f x) at passes
 
 module _ {Y : Type 0} (p : Y → Bool) (g : Y → ℕ) where
   one : (y : Y) (b : Bool) → p y ≡ b → least (map g (filter p (y ∷ []))) ≡ (if b then Some (g y) else None)
@@ -105,3 +85,47 @@ earliest-None (Some x) b e = absurd cc
 pub earliest-none : (o : Option ℕ) → earliest o None ≡ o
 earliest-none None = refl
 earliest-none (Some x) = refl
+
+-- std's least of a list
+pub reduce-least : (xs : List ℕ) → reduce min xs ≡ least xs
+reduce-least [] = refl
+reduce-least (x ∷ xs) = ap Some (from x xs)
+  where
+    from : (x : ℕ) (xs : List ℕ) → fold min x xs ≡ option_map_or (min x) (least xs) x
+    from x [] = refl
+    from x (y ∷ ys) = from (min x y) ys ∙ by_rest (least ys)
+      where
+        by_rest : (o : Option ℕ) → option_map_or (min (min x y)) o (min x y) ≡ min x (option_map_or (min y) o y)
+        by_rest None = refl
+        by_rest (Some z) = sym (min-assoc x y z)
+
+-- what is kept of the elements that pass is what passes of what is kept of them
+filter-kept : {X Y : Type 0} (f : X → Y) (p : Y → Bool) (g : Y → ℕ) (xs : List X) → map (λ x. g (f x)) (filter (λ x. p (f x)) xs) ≡ map g (filter p (map f xs))
+filter-kept f p g [] = refl
+filter-kept f p g (x ∷ xs) = by_head (p (f x)) (filter-kept f p g xs)
+  where
+    by_head : (b : Bool) → map (λ x. g (f x)) (filter (λ x. p (f x)) xs) ≡ map g (filter p (map f xs))
+        → map (λ x. g (f x)) (if b then x ∷ filter (λ x. p (f x)) xs else filter (λ x. p (f x)) xs) ≡ map g (if b then f x ∷ filter p (map f xs) else filter p (map f xs))
+    by_head true rest = ap (λ ys. g (f x) ∷ ys) rest
+    by_head false rest = rest
+
+-- what the code looks for is the least call of those that name something unknown
+pub unknown-least : (found : List ℕ → Option Source) (gates : List DraftGate) (outputs : List DraftOutput)
+    → reduce min (unknown_calls found gates outputs) ≡ least (calls_naming (is_unknown found) (map gate_kept gates) (map output_kept outputs))
+unknown-least found gates outputs =
+    reduce-least (unknown_calls found gates outputs)
+    ∙ (ap (λ xs. least (xs ++ map (λ (output : DraftOutput). output.call) (filter (λ output. is_unknown found (string_bytes output.name)) outputs))) of_gates
+    ∙ ap (λ xs. least (map (λ (line : GateLine). line.call) (filter (λ line. list_any (is_unknown found) line.inputs) (map gate_kept gates)) ++ xs)) of_outputs)
+  where
+    reads : ◌≡◌ {A = DraftGate → Bool} (λ gate. list_any (λ input. is_unknown found (string_bytes input)) gate.inputs.items) (λ gate. list_any (is_unknown found) (map string_bytes gate.inputs.items))
+    reads = λ i. λ gate. list_any-map (is_unknown found) string_bytes gate.inputs.items i
+
+    of_gates : map (λ (gate : DraftGate). gate.call) (filter (λ gate. list_any (λ input. is_unknown found (string_bytes input)) gate.inputs.items) gates)
+        ≡ map (λ (line : GateLine). line.call) (filter (λ line. list_any (is_unknown found) line.inputs) (map gate_kept gates))
+    of_gates =
+        ap (λ p. map (λ (gate : DraftGate). gate.call) (filter p gates)) reads
+        ∙ filter-kept gate_kept (λ (line : GateLine). list_any (is_unknown found) line.inputs) (λ (line : GateLine). line.call) gates
+
+    of_outputs : map (λ (output : DraftOutput). output.call) (filter (λ output. is_unknown found (string_bytes output.name)) outputs)
+        ≡ map (λ (line : OutputLine). line.call) (filter (λ line. is_unknown found line.name) (map output_kept outputs))
+    of_outputs = filter-kept output_kept (λ (line : OutputLine). is_unknown found line.name) (λ (line : OutputLine). line.call) outputs

@@ -1,5 +1,5 @@
 -- What becomes of a draft: a circuit, or the first call that stands in its way.
-use Rattle.std.specs.Prelude.{◌≡◌, ℕ, ◌-◌, min, Bool, not, List, [], ◌∷◌, ◌++◌, length, map, filter, Option, Some, None, unwrap_or, slice_get, codes, refl}
+use Rattle.std.specs.Prelude.{◌≡◌, ℕ, ◌-◌, min, Bool, not, List, [], ◌∷◌, ◌++◌, map, filter, Option, Some, None, unwrap_or, slice_get, codes, refl}
 use Rattle.std.specs.List.{list_any}
 use Rattle.std.specs.Option.{option_map, option_map_or, option_or}
 use Rattle.circuits.specs.Circuit.{Circuit, Gate, gate_nets, input_count}

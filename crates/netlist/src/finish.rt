@@ -1,12 +1,12 @@
-ghost use Rattle.std.specs.Prelude.{◌≡◌, ◌<◌, ◌^◌, length, map, filter, IfOk, None, string_bytes, vec_len};
+ghost use Rattle.std.specs.Prelude.{◌≡◌, ◌<◌, ◌^◌, min, length, map, IfOk, None, string_bytes, vec_len};
 ghost use Rattle.std.specs.HashMap.{get_by_text};
-ghost use Rattle.std.specs.List.{list_any};
-ghost use Rattle.netlist.specs.Finish.{least, numbered_by, calls_naming, calls_on_cycles};
+ghost use Rattle.std.specs.List.{list_any, reduce};
+ghost use Rattle.netlist.specs.Finish.{least, numbered_by, calls_on_cycles};
 ghost use Rattle.std.specs.Option.{option_map};
 ghost use Rattle.std.specs.Result.{result_err};
 ghost use Rattle.circuits.specs.Order.{IsAccepted, topological};
 ghost use Rattle.netlist.specs.Fault.{fault};
-ghost use Rattle.netlist.specs.Inside.LookUp.{is_unknown, earliest, number_in, circuit_in, HasSmallNets};
+ghost use Rattle.netlist.specs.Inside.LookUp.{is_unknown, unknown_calls, earliest, number_in, circuit_in, HasSmallNets};
 ghost use Rattle.netlist.specs.Inside.Kept.{net_gate_kept};
 ghost use Rattle.netlist.specs.Inside.Maker.{gate_kept, output_kept, drafted};
 ghost use Rattle.circuits.specs.Sound.{IsSound};
@@ -28,47 +28,25 @@ pub(crate) fn first_unknown(
     outputs: &[DraftOutput],
     sources: &HashMap<String, Source>,
 ) -> Option<u32>
-    ensures { result ≡ least (calls_naming (is_unknown (get_by_text sources.now)) (map gate_kept gates.now) (map output_kept outputs.now)) }
+    ensures { result ≡ reduce min (unknown_calls (get_by_text sources.now) gates.now outputs.now) }
 {
-    earliest(
-        first_unknown_gate(gates, sources),
-        first_unknown_output(outputs, sources),
-    )
-}
-
-fn first_unknown_gate(gates: &[DraftGate], sources: &HashMap<String, Source>) -> Option<u32>
-    ensures { result ≡ least (map (λ line. line.call) (filter (λ line. list_any (is_unknown (get_by_text sources.now)) line.inputs) (map gate_kept gates.now))) }
-{
-    let mut first = None;
-    for gate in gates {
-        if reads_unknown(&gate.inputs, sources) {
-            first = earliest(first, Some(gate.call));
-        }
-    }
-    first
-}
-
-fn first_unknown_output(outputs: &[DraftOutput], sources: &HashMap<String, Source>) -> Option<u32>
-    ensures { result ≡ least (map (λ line. line.call) (filter (λ line. is_unknown (get_by_text sources.now) line.name) (map output_kept outputs.now))) }
-{
-    let mut first = None;
-    for output in outputs {
-        if !sources.contains_key(output.name.as_str()) {
-            first = earliest(first, Some(output.call));
-        }
-    }
-    first
+    let gates = gates
+        .iter()
+        .filter(|gate| reads_unknown(&gate.inputs, sources))
+        .map(|gate| gate.call);
+    let outputs = outputs
+        .iter()
+        .filter(|output| !sources.contains_key(output.name.as_str()))
+        .map(|output| output.call);
+    gates.chain(outputs).min()
 }
 
 fn reads_unknown(inputs: &[String], sources: &HashMap<String, Source>) -> bool
-    ensures { result ≡ list_any (is_unknown (get_by_text sources.now)) (map string_bytes inputs.now) }
+    ensures { result ≡ list_any (λ input. is_unknown (get_by_text sources.now) (string_bytes input)) inputs.now }
 {
-    for input in inputs {
-        if !sources.contains_key(input.as_str()) {
-            return true;
-        }
-    }
-    false
+    inputs
+        .iter()
+        .any(|input| !sources.contains_key(input.as_str()))
 }
 
 pub(crate) fn earliest(a: Option<u32>, b: Option<u32>) -> Option<u32>
@@ -82,7 +60,7 @@ pub(crate) fn earliest(a: Option<u32>, b: Option<u32>) -> Option<u32>
 }
 
 /// The number of the net of a name, and 0 where there is none.
-fn number_of(name: &str, inputs: u32, sources: &HashMap<String, Source>) -> u32
+fn net_number(name: &str, inputs: u32, sources: &HashMap<String, Source>) -> u32
     requires { HasSmallNets inputs (get_by_text sources.now) }
     ensures { result ≡ number_in inputs (get_by_text sources.now) name.now }
 {
@@ -103,7 +81,7 @@ fn numbers_of(
 {
     let mut numbers = Vec::with_capacity(alloc, names.len())?;
     for name in names {
-        numbers.push(number_of(name.as_str(), inputs, sources))?;
+        numbers.push(net_number(name.as_str(), inputs, sources))?;
     }
     Ok(numbers)
 }
@@ -153,7 +131,7 @@ pub(crate) fn numbered_outputs(
 {
     let mut numbers = Vec::with_capacity(alloc, outputs.len())?;
     for output in outputs {
-        numbers.push(number_of(output.name.as_str(), inputs, sources))?;
+        numbers.push(net_number(output.name.as_str(), inputs, sources))?;
     }
     Ok(numbers)
 }

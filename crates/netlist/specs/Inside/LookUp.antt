@@ -1,14 +1,23 @@
 -- A draft's names and calls, as they are looked up.
-use Rattle.std.specs.Prelude.{◌≡◌, ℕ, ◌<◌, ◌^◌, min, Bool, not, List, length, Option, Some, None, is_some}
+use Rattle.std.specs.Prelude.{◌≡◌, ℕ, ◌<◌, ◌^◌, min, Bool, not, List, ◌++◌, length, map, filter, Option, Some, None, is_some, string_bytes}
+use Rattle.std.specs.List.{list_any}
 use Rattle.std.specs.Option.{option_map_or}
 use Rattle.circuits.specs.Circuit.{Circuit}
 use Rattle.netlist.specs.Draft.{Draft}
 use Rattle.netlist.specs.Finish.{circuit_by}
 use Rattle.netlist.specs.Inside.Source.{source_net}
+use Rattle.netlist.specs.declared.draft.DraftGate.{DraftGate}
+use Rattle.netlist.specs.declared.draft.DraftOutput.{DraftOutput}
 use Rattle.netlist.specs.declared.source.Source.{Source}
 
 abbrev pub is_unknown : (List ℕ → Option Source) → List ℕ → Bool
 is_unknown found name = not (is_some (found name))
+
+-- the calls that name something that is not found
+abbrev pub unknown_calls : (List ℕ → Option Source) → List DraftGate → List DraftOutput → List ℕ
+unknown_calls found gates outputs =
+    map (λ gate. gate.call) (filter (λ gate. list_any (λ input. is_unknown found (string_bytes input)) gate.inputs.items) gates)
+    ++ map (λ output. output.call) (filter (λ output. is_unknown found (string_bytes output.name)) outputs)
 
 -- the number of the net of a name, where there are so many inputs, and 0 where the name is not found
 abbrev pub number_in : ℕ → (List ℕ → Option Source) → List ℕ → ℕ

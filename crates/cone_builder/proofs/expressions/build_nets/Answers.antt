@@ -31,7 +31,7 @@ build_into-requires-clause-inputs c =
 
 pub build_into-requires-clause-gates : goal.build_into-requires-clause-gates
 build_into-requires-clause-gates c =
-    all_gates c.args.netlist.now c.deref-2.result.now c.deref-4.result.now c.gates.ensures.accepted (c.deref-4.ensures.value ∙ c.in_ok-gates.ensures)
+    all_gates c.args.netlist.now c.deref-2.result.now c.deref-4.result.now c.gates.ensures.accepted (c.deref-4.ensures.value ∙ c.in_ok-gates.ensures.gates)
 
 pub build_into-requires-clause-good : goal.build_into-requires-clause-good
 build_into-requires-clause-good c =
@@ -49,7 +49,7 @@ returns-clause-built c =
     (nets_are_built c.args.netlist.now c.args.spec.now c.args.check c.in_ok-named.named.items c.deref-4.result.now c.deref-3.result.now c.args.builder.now c.build_into.new.builder
     c.build_into.new.edges c.requires.over c.order.ensures.well_formed c.gates.ensures.sound c.gates.ensures.accepted c.requires.levels c.requires.check c.in_ok-named.ensures
     (λ n low. ap (λ (bits : List Bool). bit_of bits n) c.deref-3.ensures.value ∙ c.in_ok-marks.ensures.marks n low ∙ ap (λ (ns : List ℕ). is_in_cone c.args.netlist.now ns n) c.deref.ensures.value)
-    (c.deref-4.ensures.value ∙ c.in_ok-gates.ensures ∙ ap (cone c.args.netlist.now) c.deref-2.ensures.value)
+    (c.deref-4.ensures.value ∙ c.in_ok-gates.ensures.gates ∙ ap (cone c.args.netlist.now) c.deref-2.ensures.value)
     (same ∙ items) c.in_ok-build_into.ensures.good
     (λ table variables gates after.
     subst (λ (listed : List ℕ). AreBuilt c.build_into.new.builder table (or_listed (is_marked listed c.deref-3.result.now) c.deref-4.result.now) c.build_into.new.edges) c.order.ensures.order
@@ -64,7 +64,7 @@ returns-in_err-build_into-clause-causes c = λ sides ps is inputs works.
     c.requires.over c.order.ensures.well_formed c.gates.ensures.sound c.gates.ensures.accepted c.requires.levels
     (if_some_at (slice_get c.args.spec.now.checks c.args.check) sides (λ x. c.in_ok-named.named.items ≡ nets_named c.args.spec.now x) is c.in_ok-named.ensures)
     (λ n low. ap (λ (bits : List Bool). bit_of bits n) c.deref-3.ensures.value ∙ c.in_ok-marks.ensures.marks n low ∙ ap (λ (ns : List ℕ). is_in_cone c.args.netlist.now ns n) c.deref.ensures.value)
-    (c.deref-4.ensures.value ∙ c.in_ok-gates.ensures ∙ ap (cone c.args.netlist.now) c.deref-2.ensures.value)
+    (c.deref-4.ensures.value ∙ c.in_ok-gates.ensures.gates ∙ ap (cone c.args.netlist.now) c.deref-2.ensures.value)
     (subst (λ (order : List ℕ). IntoCauses c.args.netlist.now v w order c.deref-3.result.now c.deref-4.result.now (limit_met c.build_into.result)) c.order.ensures.order c.build_into.ensures.causes)
     inputs works in
     error_refused v w ps c.from_residual-in_err-build_into.result c.build_into.result c.in_err-build_into.field-0.0 c.in_err-build_into.was c.from_residual-in_err-build_into.ensures.1 call
@@ -77,7 +77,7 @@ returns-clause-causes c = λ sides ps is inputs works.
     c.requires.over c.order.ensures.well_formed c.gates.ensures.sound c.gates.ensures.accepted c.requires.levels
     (if_some_at (slice_get c.args.spec.now.checks c.args.check) sides (λ x. c.in_ok-named.named.items ≡ nets_named c.args.spec.now x) is c.in_ok-named.ensures)
     (λ n low. ap (λ (bits : List Bool). bit_of bits n) c.deref-3.ensures.value ∙ c.in_ok-marks.ensures.marks n low ∙ ap (λ (ns : List ℕ). is_in_cone c.args.netlist.now ns n) c.deref.ensures.value)
-    (c.deref-4.ensures.value ∙ c.in_ok-gates.ensures ∙ ap (cone c.args.netlist.now) c.deref-2.ensures.value)
+    (c.deref-4.ensures.value ∙ c.in_ok-gates.ensures.gates ∙ ap (cone c.args.netlist.now) c.deref-2.ensures.value)
     (subst (λ (order : List ℕ). IntoCauses c.args.netlist.now v w order c.deref-3.result.now c.deref-4.result.now (limit_met c.build_into.result)) c.order.ensures.order c.build_into.ensures.causes)
     inputs works in
     causes_answered v w ps (limit_met c.build_into.result) tt call

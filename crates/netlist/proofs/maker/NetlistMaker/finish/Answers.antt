@@ -5,11 +5,12 @@ use Rattle.std.specs.HashMap.{get_by_text}
 use Rattle.std.specs.HashSet.{contains_text}
 use Rattle.std.specs.Option.{option_map}
 use Rattle.netlist.proofs.CycleCalls.{accepted-from_none}
+use Rattle.netlist.proofs.LeastCalls.{unknown-least}
 use Rattle.netlist.proofs.LookUps.{undefined_is, circuit_is, small_nets, sources-kept, circuit-sound, finish_fault-undefined, finish_fault-defined, undefined_fault-none}
 use Rattle.circuits.specs.Circuit.{Circuit, Gate}
 use Rattle.netlist.specs.Draft.{Draft}
 use Rattle.netlist.specs.Fault.{fault}
-use Rattle.netlist.specs.Finish.{circuit_of, least, undefined_calls, undefined_fault, finish_fault, cycle_fault, calls_on_cycles}
+use Rattle.netlist.specs.Finish.{circuit_of, least, undefined_calls, undefined_fault, finish_fault, cycle_fault}
 use Rattle.netlist.specs.Inside.LookUp.{HasSmallNets}
 use Rattle.netlist.specs.Inside.Maker.{drafted, gate_kept}
 use Rattle.circuits.specs.Sound.{IsSound}
@@ -23,7 +24,7 @@ returns-in-Some-clause-fault c =
     let d : Draft = drafted c.self.inside.calls c.self.inside.inputs.items c.self.inside.gates.items c.self.inside.outputs.items in
     let found : List ℕ → Option Source = get_by_text c.self.inside.sources in
     let is_named : List ℕ → Bool = contains_text c.self.inside.named in
-    let calls : c.first_unknown.result ≡ least (undefined_calls d) = rw (c.first_unknown.ensures, c.deref.ensures.value, c.deref-2.ensures.value) (undefined_is d found is_named c.self.invariant) in
+    let calls : c.first_unknown.result ≡ least (undefined_calls d) = rw (c.first_unknown.ensures, c.deref.ensures.value, c.deref-2.ensures.value) (unknown-least found c.self.inside.gates.items c.self.inside.outputs.items ∙ undefined_is d found is_named c.self.invariant) in
     ap finish_fault (sym c.self.view_is) ∙ finish_fault-undefined d c.in-Some.at (sym calls ∙ c.in-Some.is)
 
 pub nets_of-requires-clause-small : goal.nets_of-requires-clause-small
@@ -36,7 +37,7 @@ nets_of-requires-clause-sound c =
     let d : Draft = drafted c.self.inside.calls c.self.inside.inputs.items c.self.inside.gates.items c.self.inside.outputs.items in
     let found : List ℕ → Option Source = get_by_text c.self.inside.sources in
     let is_named : List ℕ → Bool = contains_text c.self.inside.named in
-    let calls : c.first_unknown.result ≡ least (undefined_calls d) = rw (c.first_unknown.ensures, c.deref.ensures.value, c.deref-2.ensures.value) (undefined_is d found is_named c.self.invariant) in
+    let calls : c.first_unknown.result ≡ least (undefined_calls d) = rw (c.first_unknown.ensures, c.deref.ensures.value, c.deref-2.ensures.value) (unknown-least found c.self.inside.gates.items c.self.inside.outputs.items ∙ undefined_is d found is_named c.self.invariant) in
     let none : least (undefined_calls d) ≡ None = sym calls ∙ c.in_default.is in
     rw (c.deref-3.ensures.value, c.deref-4.ensures.value) (subst IsSound (sym (circuit_is d found is_named c.self.invariant)) (circuit-sound d found is_named c.self.invariant none))
 
@@ -45,7 +46,7 @@ returns-in_err-nets-clause-undefined c = λ _.
     let d : Draft = drafted c.self.inside.calls c.self.inside.inputs.items c.self.inside.gates.items c.self.inside.outputs.items in
     let found : List ℕ → Option Source = get_by_text c.self.inside.sources in
     let is_named : List ℕ → Bool = contains_text c.self.inside.named in
-    let calls : c.first_unknown.result ≡ least (undefined_calls d) = rw (c.first_unknown.ensures, c.deref.ensures.value, c.deref-2.ensures.value) (undefined_is d found is_named c.self.invariant) in
+    let calls : c.first_unknown.result ≡ least (undefined_calls d) = rw (c.first_unknown.ensures, c.deref.ensures.value, c.deref-2.ensures.value) (unknown-least found c.self.inside.gates.items c.self.inside.outputs.items ∙ undefined_is d found is_named c.self.invariant) in
     let none : least (undefined_calls d) ≡ None = sym calls ∙ c.in_default.is in
     ap undefined_fault (sym c.self.view_is) ∙ undefined_fault-none d none
 
@@ -62,7 +63,7 @@ returns-in_err-order-clause-undefined c = λ _.
     let d : Draft = drafted c.self.inside.calls c.self.inside.inputs.items c.self.inside.gates.items c.self.inside.outputs.items in
     let found : List ℕ → Option Source = get_by_text c.self.inside.sources in
     let is_named : List ℕ → Bool = contains_text c.self.inside.named in
-    let calls : c.first_unknown.result ≡ least (undefined_calls d) = rw (c.first_unknown.ensures, c.deref.ensures.value, c.deref-2.ensures.value) (undefined_is d found is_named c.self.invariant) in
+    let calls : c.first_unknown.result ≡ least (undefined_calls d) = rw (c.first_unknown.ensures, c.deref.ensures.value, c.deref-2.ensures.value) (unknown-least found c.self.inside.gates.items c.self.inside.outputs.items ∙ undefined_is d found is_named c.self.invariant) in
     let none : least (undefined_calls d) ≡ None = sym calls ∙ c.in_default.is in
     ap undefined_fault (sym c.self.view_is) ∙ undefined_fault-none d none
 
@@ -71,7 +72,7 @@ without_cycle-requires-clause-accepted c = λ off.
     let d : Draft = drafted c.self.inside.calls c.self.inside.inputs.items c.self.inside.gates.items c.self.inside.outputs.items in
     let found : List ℕ → Option Source = get_by_text c.self.inside.sources in
     let is_named : List ℕ → Bool = contains_text c.self.inside.named in
-    let calls : c.first_unknown.result ≡ least (undefined_calls d) = rw (c.first_unknown.ensures, c.deref.ensures.value, c.deref-2.ensures.value) (undefined_is d found is_named c.self.invariant) in
+    let calls : c.first_unknown.result ≡ least (undefined_calls d) = rw (c.first_unknown.ensures, c.deref.ensures.value, c.deref-2.ensures.value) (unknown-least found c.self.inside.gates.items c.self.inside.outputs.items ∙ undefined_is d found is_named c.self.invariant) in
     let none : least (undefined_calls d) ≡ None = sym calls ∙ c.in_default.is in
     let made : c.in_ok-nets.nets ≡ circuit_of d = c.in_ok-nets.ensures ∙ rw (c.deref-3.ensures.value, c.deref-4.ensures.value) (circuit_is d found is_named c.self.invariant) in
     accepted-from_none c.in_ok-nets.nets (map gate_kept c.deref-5.result.now) (subst IsSound (sym made) (circuit-sound d found is_named c.self.invariant none)) (sym c.in_ok-order.ensures.cycle ∙ off)
@@ -81,7 +82,7 @@ returns-in_err-without_cycle-clause-fault c =
     let d : Draft = drafted c.self.inside.calls c.self.inside.inputs.items c.self.inside.gates.items c.self.inside.outputs.items in
     let found : List ℕ → Option Source = get_by_text c.self.inside.sources in
     let is_named : List ℕ → Bool = contains_text c.self.inside.named in
-    let calls : c.first_unknown.result ≡ least (undefined_calls d) = rw (c.first_unknown.ensures, c.deref.ensures.value, c.deref-2.ensures.value) (undefined_is d found is_named c.self.invariant) in
+    let calls : c.first_unknown.result ≡ least (undefined_calls d) = rw (c.first_unknown.ensures, c.deref.ensures.value, c.deref-2.ensures.value) (unknown-least found c.self.inside.gates.items c.self.inside.outputs.items ∙ undefined_is d found is_named c.self.invariant) in
     let none : least (undefined_calls d) ≡ None = sym calls ∙ c.in_default.is in
     let made : c.in_ok-nets.nets ≡ circuit_of d = c.in_ok-nets.ensures ∙ rw (c.deref-3.ensures.value, c.deref-4.ensures.value) (circuit_is d found is_named c.self.invariant) in
     let cycles : option_map (λ at. fault at Cycle) c.in_ok-order.on_cycle ≡ cycle_fault d = ap (λ o. option_map (λ at. fault at Cycle) o) (c.in_ok-order.ensures.cycle ∙ rw (made, c.deref-5.ensures.value) refl) in
@@ -101,7 +102,7 @@ returns-clause-fault c =
     let d : Draft = drafted c.self.inside.calls c.self.inside.inputs.items c.self.inside.gates.items c.self.inside.outputs.items in
     let found : List ℕ → Option Source = get_by_text c.self.inside.sources in
     let is_named : List ℕ → Bool = contains_text c.self.inside.named in
-    let calls : c.first_unknown.result ≡ least (undefined_calls d) = rw (c.first_unknown.ensures, c.deref.ensures.value, c.deref-2.ensures.value) (undefined_is d found is_named c.self.invariant) in
+    let calls : c.first_unknown.result ≡ least (undefined_calls d) = rw (c.first_unknown.ensures, c.deref.ensures.value, c.deref-2.ensures.value) (unknown-least found c.self.inside.gates.items c.self.inside.outputs.items ∙ undefined_is d found is_named c.self.invariant) in
     let none : least (undefined_calls d) ≡ None = sym calls ∙ c.in_default.is in
     let made : c.in_ok-nets.nets ≡ circuit_of d = c.in_ok-nets.ensures ∙ rw (c.deref-3.ensures.value, c.deref-4.ensures.value) (circuit_is d found is_named c.self.invariant) in
     let cycles : option_map (λ at. fault at Cycle) c.in_ok-order.on_cycle ≡ cycle_fault d = ap (λ o. option_map (λ at. fault at Cycle) o) (c.in_ok-order.ensures.cycle ∙ rw (made, c.deref-5.ensures.value) refl) in
