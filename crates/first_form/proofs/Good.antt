@@ -8,13 +8,14 @@ use Rattle.std.specs.Str.Parse.{digits_value}
 use Rattle.std.proofs.lemmas.Bool.{ltb-true}
 use Rattle.std.proofs.lemmas.List.{length_push, length-map, length-append}
 use Rattle.std.proofs.lemmas.List.Elements.{All-nil, All-cons, All-append, All-push}
-use Rattle.std.proofs.lemmas.Option.{cond_some, option_and_then_some}
+use Rattle.std.proofs.lemmas.Option.{same_Some, cond_some, option_and_then_some}
 use Rattle.circuits.specs.Circuit.{Circuit, net_count}
 use Rattle.circuits.specs.Names.{net_of, names_of}
 use Rattle.spec_lang.specs.Formula.{Formula, number, word, product, sum}
 use Rattle.spec_lang.specs.Named.{namings}
 use Rattle.spec_lang.specs.Specification.{Word, Check, named_word}
-use Rattle.spec_lang.specs.WellFormed.{IsSizedWord, NamesBelow, NamesWords, most_words, most_nets_of_word}
+use Rattle.spec_lang.specs.WellFormed.{IsSizedWord, NamesBelow, NamesWords}
+use Rattle.spec_lang.specs.declared.limits.TheConstants.{MOST_WORDS, MOST_NETS_OF_WORD}
 use Rattle.first_form.proofs.LineLemmas.{room_of_word_line}
 use Rattle.first_form.specs.FirstForm.{net_numbers, is_word_line, word_line, both_sides, sides, check_line, is_equality}
 use Rattle.first_form.specs.GoodWords.{AreGoodWords}
@@ -22,12 +23,9 @@ use Rattle.first_form.specs.Names.{is_net_name, net_number}
 use Rattle.first_form.specs.Parts.{between_times}
 use Rattle.first_form.specs.Sums.{number_of, word_of, atom, product_after, product_of_factors, product_of, is_plus, sum_after, sum_of}
 
-some_is : {A : Type 0} (x y : A) → Some x ≡ Some y → x ≡ y
-some_is x y e = cc
-
-mapped_some : {A B : Type 0} (f : A → B) (o : Option A) (y : B) → option_map f o ≡ Some y → (x : A) × (o ≡ Some x) × (f x ≡ y)
+pub mapped_some : {A B : Type 0} (f : A → B) (o : Option A) (y : B) → option_map f o ≡ Some y → (x : A) × (o ≡ Some x) × (f x ≡ y)
 mapped_some f None y e = absurd (cc)
-mapped_some f (Some x) y e = (x, refl, some_is (f x) y e)
+mapped_some f (Some x) y e = (x, refl, same_Some (f x) y e)
 
 place_within : (n len i : ℕ) → cond (ltb n len) (Some n) None ≡ Some i → i < len
 place_within n len i e = let p = cond_some (ltb n len) n i e in subst (λ k. k < len) p.1 (ltb-true n len p.0)
@@ -35,7 +33,7 @@ place_within n len i e = let p = cond_some (ltb n len) n i e in subst (λ k. k <
 pub found_within : {X : Type 0} (p : X → Bool) (xs : List X) (i : ℕ) → position p xs ≡ Some i → i < length xs
 found_within p xs i e = place_within (position_or_len p xs) (length xs) i e
 
-some_if : {A : Type 0} (b : Bool) (o : Option A) (y : A) → cond b o None ≡ Some y → (b ≡ true) × (o ≡ Some y)
+pub some_if : {A : Type 0} (b : Bool) (o : Option A) (y : A) → cond b o None ≡ Some y → (b ≡ true) × (o ≡ Some y)
 some_if true o y e = (refl, e)
 some_if false o y e = absurd (cc)
 
@@ -53,7 +51,7 @@ nets_after c name names n ms ns below nets e =
     subst (AreNets c (name ∷ names)) e (record { one_each = ap suc nets.one_each; below = All-cons (λ net. net < net_count c) n ms below nets.below })
 
 pub net_numbers_are_nets : (c : Circuit) (names : List (List ℕ)) (ns : List ℕ) → net_numbers c names ≡ Some ns → AreNets c names ns
-net_numbers_are_nets c [] ns e = subst (AreNets c []) (some_is [] ns e) (record { one_each = refl; below = All-nil (λ net. net < net_count c) })
+net_numbers_are_nets c [] ns e = subst (AreNets c []) (same_Some [] ns e) (record { one_each = refl; below = All-nil (λ net. net < net_count c) })
 net_numbers_are_nets c (name ∷ names) ns e =
     option_and_then_some (λ n. option_map (λ ns. n ∷ ns) (net_numbers c names)) (net_number c name) ns e (λ n found rest.
     let more = mapped_some (λ ns. n ∷ ns) (net_numbers c names) ns rest in
@@ -61,10 +59,10 @@ net_numbers_are_nets c (name ∷ names) ns e =
 
 pub record IsNextWord (c : Circuit) (words : List Word) (w : Word) : Type 0 where
   pub sized : IsSizedWord w
-  pub room : length words < most_words
+  pub room : length words < MOST_WORDS
   pub nets : All (λ net. net < net_count c) w.nets
 
-next_word : (c : Circuit) (words : List Word) (name net : List ℕ) (more : List (List ℕ)) (ns : List ℕ) (w : Word) → length words < most_words → length (net ∷ more) ≤ most_nets_of_word
+next_word : (c : Circuit) (words : List Word) (name net : List ℕ) (more : List (List ℕ)) (ns : List ℕ) (w : Word) → length words < MOST_WORDS → length (net ∷ more) ≤ MOST_NETS_OF_WORD
     → AreNets c (net ∷ more) ns → named_word name ns ≡ w → IsNextWord c words w
 next_word c words name net more ns w room few nets e =
     subst (IsNextWord c words) e (let len = nets.one_each in record { sized = record { some = omega arith; few = omega arith }; room = room; nets = nets.below })
@@ -107,7 +105,7 @@ atom_names words text f e = by_case (nat_lt 0 (length text) && list_all is_ascii
     by_case false e = a_word e
 
 product_after_names : (words : List Word) (f : Formula) (factors : List (List ℕ)) (g : Formula) → NamesBelow (length words) f → product_after words f factors ≡ Some g → NamesBelow (length words) g
-product_after_names words f [] g names e = subst (NamesBelow (length words)) (some_is f g e) names
+product_after_names words f [] g names e = subst (NamesBelow (length words)) (same_Some f g e) names
 product_after_names words f (factor ∷ more) g names e =
     option_and_then_some (λ g. product_after words (product f g) more) (atom words factor) g e (λ h found rest.
     product_after_names words (product f h) more g (All-append (λ w. w < length words) (namings f) (namings h) names (atom_names words factor h found)) rest)
@@ -118,7 +116,7 @@ factors_name words (factor ∷ more) g e =
     option_and_then_some (λ f. product_after words f more) (atom words factor) g e (λ f found rest. product_after_names words f more g (atom_names words factor f found) rest)
 
 sum_after_names : (words : List Word) (f : Formula) (line : List (List ℕ)) (g : Formula) → NamesBelow (length words) f → sum_after words f line ≡ Some g → NamesBelow (length words) g
-sum_after_names words f [] g names e = subst (NamesBelow (length words)) (some_is f g e) names
+sum_after_names words f [] g names e = subst (NamesBelow (length words)) (same_Some f g e) names
 sum_after_names words f (sign ∷ []) g names e = absurd (cc)
 sum_after_names words f (sign ∷ text ∷ more) g names e =
     option_and_then_some (λ g. sum_after words (sum f g) more) (product_of words text) g (some_if (is_plus sign) _ g e).1 (λ h found rest.
@@ -133,7 +131,7 @@ both_name : (words : List Word) (left right : List (List ℕ)) (f g : Option For
 both_name words left right None g check l r e = absurd (cc)
 both_name words left right (Some f) None check l r e = absurd (cc)
 both_name words left right (Some f) (Some g) check l r e =
-    subst (NamesWords (length words)) (some_is _ check e) (record { left = sum_names words left f l; right = sum_names words right g r })
+    subst (NamesWords (length words)) (same_Some _ check e) (record { left = sum_names words left f l; right = sum_names words right g r })
 
 pub check_line_names : (words : List Word) (line : List (List ℕ)) (check : Check) → check_line words line ≡ Some check → NamesWords (length words) check
 check_line_names words [] check e = absurd (cc)

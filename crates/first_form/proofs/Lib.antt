@@ -1,3 +1,4 @@
+pub mod CheckSizes
 pub mod Good
 pub mod LineLemmas
 pub mod NameLemmas

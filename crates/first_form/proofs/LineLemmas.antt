@@ -7,8 +7,8 @@ use Rattle.std.proofs.lemmas.List.{take-map, drop-map, length-map, drop_all}
 use Rattle.circuits.specs.Circuit.{Circuit}
 use Rattle.spec_lang.specs.Formula.{Formula}
 use Rattle.spec_lang.specs.Specification.{Word, named_word}
-use Rattle.first_form.specs.FirstForm.{net_numbers, is_new, is_word_line, word_line, most_symbols, is_equality, both_sides, sides}
-use Rattle.spec_lang.specs.WellFormed.{most_words, most_nets_of_word}
+use Rattle.first_form.specs.FirstForm.{net_numbers, is_new, is_word_line, word_line, is_equality, both_sides, sides}
+use Rattle.spec_lang.specs.declared.limits.TheConstants.{MOST_WORDS, MOST_NETS_OF_WORD, MOST_SYMBOLS}
 use Rattle.std.specs.Str.{bytes_eq}
 use Rattle.first_form.specs.Names.{is_word_name}
 use Rattle.first_form.specs.Parts.{symbol_count}
@@ -69,14 +69,14 @@ module _ {X : Type 0} (see : X → List ℕ) (words : List Word) where
   place_is : (line : List X) (at : ℕ) → position (λ x. is_equality (see x)) line ≡ Some at → position_or_len is_equality (map see line) ≡ at
   place_is line at e = position_or_len-map see is_equality line ∙ some_place _ (position_or_len (λ x. is_equality (see x)) line) at e
 
-  few : (line : List X) → nat_le (symbol_count (map see line)) most_symbols ≡ true
+  few : (line : List X) → nat_le (symbol_count (map see line)) MOST_SYMBOLS ≡ true
       → sides words (map see line) ≡ both_sides (sum_of words (before_first is_equality (map see line))) (sum_of words (after_first is_equality (map see line)))
-  few line e = cond-true (nat_le (symbol_count (map see line)) most_symbols) _ None e
+  few line e = cond-true (nat_le (symbol_count (map see line)) MOST_SYMBOLS) _ None e
 
-  pub sides-many : (line : List X) → nat_le (symbol_count (map see line)) most_symbols ≡ false → sides words (map see line) ≡ None
-  sides-many line e = cond-false (nat_le (symbol_count (map see line)) most_symbols) _ None e
+  pub sides-many : (line : List X) → nat_le (symbol_count (map see line)) MOST_SYMBOLS ≡ false → sides words (map see line) ≡ None
+  sides-many line e = cond-false (nat_le (symbol_count (map see line)) MOST_SYMBOLS) _ None e
 
-  pub sides-at : (line : List X) (at : ℕ) (f g : Option Formula) → nat_le (symbol_count (map see line)) most_symbols ≡ true → position (λ x. is_equality (see x)) line ≡ Some at
+  pub sides-at : (line : List X) (at : ℕ) (f g : Option Formula) → nat_le (symbol_count (map see line)) MOST_SYMBOLS ≡ true → position (λ x. is_equality (see x)) line ≡ Some at
       → sum_of words (map see (take at line)) ≡ f → sum_of words (map see (drop (at + 1) line)) ≡ g → sides words (map see line) ≡ both_sides f g
   sides-at line at f g e place left right =
       few line e
@@ -95,7 +95,7 @@ module _ {X : Type 0} (see : X → List ℕ) (words : List Word) where
       ⊎_elim
       (λ e. few line e ∙ ap (λ xs. both_sides (sum_of words (before_first is_equality (map see line))) (sum_of words xs)) nothing ∙ no_right _)
       (λ e. sides-many line e)
-      (cases_Bool (nat_le (symbol_count (map see line)) most_symbols))
+      (cases_Bool (nat_le (symbol_count (map see line)) MOST_SYMBOLS))
 
 -- what is known of a word line's name
 pub name_of_word_line : (words : List Word) (keyword name equals : List ℕ) (nets : List (List ℕ)) → is_word_line words keyword name equals nets ≡ true → is_word_name name ≡ true
@@ -104,15 +104,15 @@ name_of_word_line words keyword name equals nets e =
     let b = bytes_eq equals (codes "=") in
     let n = is_word_name name in
     let new = is_new words name in
-    let few = nat_lt (length words) most_words in
-    (and_parts (a && b) n (and_parts (a && b && n) new (and_parts (a && b && n && new) few (and_parts (a && b && n && new && few) (nat_le (length nets) most_nets_of_word) e).0).0).0).1
+    let few = nat_lt (length words) MOST_WORDS in
+    (and_parts (a && b) n (and_parts (a && b && n) new (and_parts (a && b && n && new) few (and_parts (a && b && n && new && few) (nat_le (length nets) MOST_NETS_OF_WORD) e).0).0).0).1
 
 pub room_of_word_line : (words : List Word) (keyword name equals : List ℕ) (nets : List (List ℕ)) → is_word_line words keyword name equals nets ≡ true
-    → (length words < most_words) × (length nets ≤ most_nets_of_word)
+    → (length words < MOST_WORDS) × (length nets ≤ MOST_NETS_OF_WORD)
 room_of_word_line words keyword name equals nets e =
     let before = bytes_eq keyword (codes "word") && bytes_eq equals (codes "=") && is_word_name name && is_new words name in
-    let parts = and_parts (before && nat_lt (length words) most_words) (nat_le (length nets) most_nets_of_word) e in
-    (ltb-true (length words) most_words (and_parts before (nat_lt (length words) most_words) parts.0).1, leb-true (length nets) most_nets_of_word parts.1)
+    let parts = and_parts (before && nat_lt (length words) MOST_WORDS) (nat_le (length nets) MOST_NETS_OF_WORD) e in
+    (ltb-true (length words) MOST_WORDS (and_parts before (nat_lt (length words) MOST_WORDS) parts.0).1, leb-true (length nets) MOST_NETS_OF_WORD parts.1)
 
 pub name_of_word : {X : Type 0} (see : X → List ℕ) (c : Circuit) (words : List Word) (line : List X) (d : X) → is_word see c words line d ≡ true → is_word_name (see (get_or line 1 d)) ≡ true
 name_of_word see c words line d e = name_of_word_line words (see (get_or line 0 d)) (see (get_or line 1 d)) (see (get_or line 2 d)) (map see (drop 3 line)) e

@@ -15,11 +15,8 @@ use Rattle.first_form.specs.FirstForm.{net_numbers}
 use Rattle.circuits.specs.Names.{is_name_byte}
 use Rattle.first_form.specs.Names.{is_short, is_net_name, is_first_byte, is_later_byte, is_identifier, is_keyword, is_word_name, net_number}
 
-name_byte_is_small : (b : ℕ) → is_name_byte b ≡ true → b < 128
-name_byte_is_small b e = omega (arith, ltb-true b 127 (and_parts (nat_lt 32 b) (nat_lt b 127) (and_parts (nat_lt 32 b && nat_lt b 127) (not (list_any (nat_eq b) (codes "(),=#"))) e).0).1)
-
-pub net_names_are_utf8 : (name : List ℕ) → is_net_name name ≡ true → IsUtf8 name
-net_names_are_utf8 name e = IsUtf8-from_ascii name (ascii_where is_name_byte name_byte_is_small name (and_parts (nat_lt 0 (length name) && is_short name) (list_all is_name_byte name) e).1)
+pub net_names_are_of_name_bytes : (name : List ℕ) → is_net_name name ≡ true → list_all is_name_byte name ≡ true
+net_names_are_of_name_bytes name e = (and_parts (nat_lt 0 (length name) && is_short name) (list_all is_name_byte name) e).1
 
 letter_is_small : (b : ℕ) → is_ascii_alphabetic b ≡ true → b < 128
 letter_is_small b e = grind (arith, nat_tests)

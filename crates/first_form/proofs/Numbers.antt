@@ -1,5 +1,5 @@
 -- Texts of digits.
-use Rattle.std.proofs.Common.{◌≡◌, ℕ, ◌<◌, ◌^◌, ℤ, pos, Bool, true, cond, List, [], ◌∷◌, Some, None, Result, Ok, Err, IsOk, MatchResult, ltb, refl, sym, ap, ◌∙◌, arith, rules}
+use Rattle.std.proofs.Common.{◌≡◌, ℕ, ◌<◌, ◌^◌, ℤ, pos, Bool, true, cond, List, [], ◌∷◌, Some, None, Result, Ok, Err, ltb, refl, sym, ap, ◌∙◌, arith, rules}
 use Rattle.std.specs.Char.{is_ascii_digit}
 use Rattle.std.specs.List.{list_all}
 use Rattle.std.specs.Result.{OkIff, result_ok}
@@ -26,10 +26,6 @@ digit_is_small b e = grind (arith, nat_tests)
 
 pub digits_are_utf8 : (text : List ℕ) → list_all is_ascii_digit text ≡ true → IsUtf8 text
 digits_are_utf8 text e = IsUtf8-from_ascii text (ascii_where is_ascii_digit digit_is_small text e)
-
-pub ok_since : {A E : Type 0} (r : Result A E) (P : A → Type 0) (Q : E → Type 0) → MatchResult r P Q → ((e : E) → Q e → ⊥) → IsOk r
-ok_since (Ok x) P Q m h = refl
-ok_since (Err e) P Q m h = absurd (h e m)
 
 pub ok_below : {E : Type 0} (r : Result ℤ E) (n m : ℕ) → 0 < m → OkIff r ((0 < m) × (n < 2 ^ 127)) (pos n) → result_ok r ≡ cond (ltb n (2 ^ 127)) (Some (pos n)) None
 ok_below (Ok x) n m some ok = ap Some ok.1 ∙ sym (ap (λ b. cond b (Some (pos n)) None) (lt-ltb n (2 ^ 127) ok.0.1))

@@ -7,7 +7,7 @@ use Rattle.circuits.specs.Circuit.{Circuit, input_count}
 use Rattle.circuits.specs.Examples.{half}
 use Rattle.spec_lang.specs.Formula.{Formula, number, word, sum, product}
 use Rattle.spec_lang.specs.Specification.{Word, Check, Specification, named_word, specification, single, half_adder}
-use Rattle.spec_lang.specs.WellFormed.{most_words, most_nets_of_word}
+use Rattle.spec_lang.specs.declared.limits.TheConstants.{MOST_WORDS, MOST_NETS_OF_WORD, MOST_SYMBOLS}
 use Rattle.word_base.specs.Kind.{usual_letter}
 use Rattle.word_base.specs.declared.kind_name.KindName.{KindName}
 use Rattle.word_base.specs.declared.kind_name.KindName.TheVariants.{Hdd, StarBmd}
@@ -27,7 +27,7 @@ is_new words name = not (list_any (λ w. bytes_eq name w.name) words)
 abbrev pub is_word_line : List Word → List ℕ → List ℕ → List ℕ → List (List ℕ) → Bool
 is_word_line words keyword name equals nets =
     bytes_eq keyword (codes "word") && bytes_eq equals (codes "=") && is_word_name name && is_new words name
-    && nat_lt (length words) most_words && nat_le (length nets) most_nets_of_word
+    && nat_lt (length words) MOST_WORDS && nat_le (length nets) MOST_NETS_OF_WORD
 
 -- word NAME = NET .. NET
 abbrev pub word_line : Circuit → List Word → List (List ℕ) → Option Word
@@ -36,10 +36,6 @@ word_line c words (keyword ∷ name ∷ equals ∷ net ∷ more) =
     then option_map (named_word name) (net_numbers c (net ∷ more))
     else None
 word_line c words _ = None
-
--- the symbols of a check
-abbrev pub most_symbols : ℕ
-most_symbols = 1024
 
 abbrev pub is_equality : List ℕ → Bool
 is_equality part = bytes_eq part (codes "==")
@@ -51,7 +47,7 @@ both_sides _ _ = None
 -- SUM == SUM
 abbrev pub sides : List Word → List (List ℕ) → Option Check
 sides words line =
-    if nat_le (symbol_count line) most_symbols
+    if nat_le (symbol_count line) MOST_SYMBOLS
     then both_sides (sum_of words (before_first is_equality line)) (sum_of words (after_first is_equality line))
     else None
 

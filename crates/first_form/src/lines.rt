@@ -3,7 +3,8 @@ ghost use Rattle.std.specs.List.{list_any};
 ghost use Rattle.std.specs.Option.{option_map};
 ghost use Rattle.std.specs.Str.{bytes_eq};
 ghost use Rattle.spec_lang.specs.Specification.{named_word};
-ghost use Rattle.spec_lang.specs.WellFormed.{IsSizedWord, most_words};
+ghost use Rattle.spec_lang.specs.WellFormed.{IsSizedWord};
+ghost use Rattle.spec_lang.specs.declared.limits.TheConstants.{MOST_WORDS};
 ghost use Rattle.first_form.specs.FirstForm.{net_numbers, is_new, is_word_line, word_line, sides, check_line};
 ghost use Rattle.first_form.specs.Names.{is_word_name, net_number};
 
@@ -11,14 +12,15 @@ use crate::names::{is_net_name, is_word_name};
 use crate::sums::sum_of;
 use crate::text::{has_few_symbols, is, place_of_equality};
 use netlist::Netlist;
-use spec_lang::{Check, Word};
+use spec_lang::{Check, MOST_NETS_OF_WORD, MOST_WORDS, Word};
 use std::alloc::{AllocError, Global};
+use texts::as_name;
 
 fn net_number(netlist: &Netlist, name: &[u8]) -> Option<u32>
     ensures { result ≡ net_number netlist.now name.now }
 {
     if is_net_name(name) {
-        netlist.find(str::from_utf8(name).unwrap())
+        netlist.find(as_name(name).unwrap())
     } else {
         None
     }
@@ -60,8 +62,8 @@ fn is_word_line(words: &[Word], keyword: &[u8], name: &[u8], equals: &[u8], nets
         && is(equals, "=")
         && is_word_name(name)
         && is_new(words, name)
-        && words.len() < 64
-        && nets.len() <= 127
+        && words.len() < MOST_WORDS
+        && nets.len() <= MOST_NETS_OF_WORD
 }
 
 fn made_word(alloc: Global, name: &[u8], nets: Vec<u32>) -> Result<Word, AllocError>
@@ -96,7 +98,7 @@ pub(crate) fn word_line(
 }
 
 fn sides(alloc: Global, words: &[Word], line: &[&[u8]]) -> Result<Option<Check>, AllocError>
-    requires { length words.now ≤ most_words }
+    requires { length words.now ≤ MOST_WORDS }
     ensures { IfOk result (λ found. found ≡ sides words.now (map (λ part. part.now) line.now)) }
 {
     if !has_few_symbols(line) {
@@ -120,7 +122,7 @@ pub(crate) fn check_line(
     words: &[Word],
     line: &[&[u8]],
 ) -> Result<Option<Check>, AllocError>
-    requires { length words.now ≤ most_words }
+    requires { length words.now ≤ MOST_WORDS }
     ensures { IfOk result (λ found. found ≡ check_line words.now (map (λ part. part.now) line.now)) }
 {
     let Some((keyword, line)) = line.split_first() else {

@@ -1,27 +1,15 @@
 ghost use Rattle.std.specs.Prelude.{◌≡◌};
 ghost use Rattle.std.specs.List.{list_all};
 ghost use Rattle.first_form.specs.Names.{is_first_byte, is_later_byte, is_identifier, is_keyword, is_net_name, is_word_name};
-ghost use Rattle.circuits.specs.Names.{is_name_byte};
 
 use crate::text::is;
-
-fn is_name_byte(byte: u8) -> bool
-    ensures { result ≡ is_name_byte byte }
-{
-    32 < byte && byte < 127 && !matches!(byte, b'(' | b')' | b',' | b'=' | b'#')
-}
-
-fn has_name_bytes_only(name: &[u8]) -> bool
-    ensures { result ≡ list_all is_name_byte name.now }
-{
-    name.iter().all(|b| is_name_byte(*b))
-}
+use texts::as_name;
 
 /// Whether a net may have this name.
 pub(crate) fn is_net_name(name: &[u8]) -> bool
     ensures { result ≡ is_net_name name.now }
 {
-    !name.is_empty() && name.len() <= 64 && has_name_bytes_only(name)
+    !name.is_empty() && name.len() <= 64 && as_name(name).is_some()
 }
 
 fn is_first_byte(byte: u8) -> bool

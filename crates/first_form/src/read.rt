@@ -1,6 +1,8 @@
-ghost use Rattle.std.specs.Prelude.{◌≡◌, [], length, map, IfOk, IfSome};
+ghost use Rattle.std.specs.Prelude.{◌≡◌, ◌≤◌, [], length, map, IfOk, IfSome};
 ghost use Rattle.std.specs.Option.{option_map};
+ghost use Rattle.spec_lang.specs.Size.{check_size};
 ghost use Rattle.spec_lang.specs.WellFormed.{IsOver, NamesWords};
+ghost use Rattle.spec_lang.specs.declared.limits.TheConstants.{MOST_SYMBOLS};
 ghost use Rattle.first_form.specs.FirstForm.{with_usual, check_line, is_end, said, first_form};
 ghost use Rattle.first_form.specs.GoodWords.{AreGoodWords};
 
@@ -28,6 +30,7 @@ fn whole(
 ) -> Result<Spec, AllocError>
     requires words { AreGoodWords netlist.now words.items }
     requires check { NamesWords (length words.items) check }
+    requires few_symbols { check_size check ≤ MOST_SYMBOLS }
     ensures form { IfOk result (λ spec. spec ≡ with_usual netlist.now kind words.items check) }
     ensures over { IfOk result (λ spec. IsOver netlist.now spec) }
 {

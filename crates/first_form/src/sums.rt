@@ -5,7 +5,7 @@ ghost use Rattle.std.specs.List.{list_all};
 ghost use Rattle.std.specs.Option.{option_map};
 ghost use Rattle.std.specs.Str.{bytes_eq};
 ghost use Rattle.spec_lang.specs.Formula.{formula_of, number};
-ghost use Rattle.spec_lang.specs.WellFormed.{most_words};
+ghost use Rattle.spec_lang.specs.declared.limits.TheConstants.{MOST_WORDS};
 ghost use Rattle.first_form.specs.Sums.{number_of, word_of, atom, product_after, product_of, sum_after, sum_of};
 
 use crate::text::{is, parts};
@@ -51,7 +51,7 @@ fn place_of(words: &[Word], name: &[u8]) -> Option<usize>
 }
 
 fn word_of(words: &[Word], name: &[u8]) -> Option<Expr>
-    requires { length words.now ≤ most_words }
+    requires { length words.now ≤ MOST_WORDS }
     ensures { option_map formula_of result ≡ word_of words.now name.now }
 {
     let place = place_of(words, name)?;
@@ -60,7 +60,7 @@ fn word_of(words: &[Word], name: &[u8]) -> Option<Expr>
 
 /// The number or the word that a text is.
 fn atom(words: &[Word], text: &[u8]) -> Option<Expr>
-    requires { length words.now ≤ most_words }
+    requires { length words.now ≤ MOST_WORDS }
     ensures { option_map formula_of result ≡ atom words.now text.now }
 {
     if is_number(text) {
@@ -77,7 +77,7 @@ fn product_after(
     first: Expr,
     factors: &[&[u8]],
 ) -> Result<Option<Expr>, AllocError>
-    requires { length words.now ≤ most_words }
+    requires { length words.now ≤ MOST_WORDS }
     ensures { IfOk result (λ found. option_map formula_of found ≡ product_after words.now (formula_of first) (map (λ part. part.now) factors.now)) }
 {
     let mut product = first;
@@ -91,7 +91,7 @@ fn product_after(
 }
 
 fn product_of(alloc: Global, words: &[Word], text: &[u8]) -> Result<Option<Expr>, AllocError>
-    requires { length words.now ≤ most_words }
+    requires { length words.now ≤ MOST_WORDS }
     ensures { IfOk result (λ found. option_map formula_of found ≡ product_of words.now text.now) }
 {
     let factors = parts(alloc, text, b'*')?;
@@ -111,7 +111,7 @@ fn sum_after(
     first: Expr,
     line: &[&[u8]],
 ) -> Result<Option<Expr>, AllocError>
-    requires { length words.now ≤ most_words }
+    requires { length words.now ≤ MOST_WORDS }
     ensures { IfOk result (λ found. option_map formula_of found ≡ sum_after words.now (formula_of first) (map (λ part. part.now) line.now)) }
 {
     let mut sum = first;
@@ -135,7 +135,7 @@ pub(crate) fn sum_of(
     words: &[Word],
     line: &[&[u8]],
 ) -> Result<Option<Expr>, AllocError>
-    requires { length words.now ≤ most_words }
+    requires { length words.now ≤ MOST_WORDS }
     ensures { IfOk result (λ found. option_map formula_of found ≡ sum_of words.now (map (λ part. part.now) line.now)) }
 {
     let Some((first, more)) = line.split_first() else {

@@ -1,8 +1,10 @@
 ghost use Rattle.std.specs.Prelude.{◌≡◌, ◌<◌, map, length, count_by, nat_le, position, IfOk, IfSome};
 ghost use Rattle.std.specs.Str.{bytes_eq};
-ghost use Rattle.first_form.specs.FirstForm.{is_equality, most_symbols};
+ghost use Rattle.first_form.specs.FirstForm.{is_equality};
+ghost use Rattle.spec_lang.specs.declared.limits.TheConstants.{MOST_SYMBOLS};
 ghost use Rattle.first_form.specs.Parts.{parts, is_times, symbols, symbol_count};
 
+use spec_lang::MOST_SYMBOLS;
 use std::alloc::{AllocError, Global};
 
 /// What stands between the bytes that are the separator.
@@ -27,9 +29,9 @@ fn times_signs(part: &[u8]) -> usize
 
 /// Whether a line has no more symbols than a check may have.
 pub(crate) fn has_few_symbols(line: &[&[u8]]) -> bool
-    ensures { result ≡ nat_le (symbol_count (map (λ part. part.now) line.now)) most_symbols }
+    ensures { result ≡ nat_le (symbol_count (map (λ part. part.now) line.now)) MOST_SYMBOLS }
 {
-    let mut room = 1024;
+    let mut room = MOST_SYMBOLS;
     for part in line {
         let symbols = 2 * times_signs(part) + 1;
         if symbols > room {

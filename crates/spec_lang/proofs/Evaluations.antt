@@ -1,14 +1,14 @@
 -- The values of both sides over a netlist, from the steps of their evaluation.
-use Rattle.std.specs.Prelude.{◌≡◌, ℕ, ℤ, Bool, true, false, ◌&&◌, List, length, Option, Some, None, Result, Ok, Err, IfSome, IsTrue}
-use Rattle.std.specs.Result.{OkIff, IsErrAnd}
+use Rattle.std.specs.Prelude.{◌≡◌, ℕ, ℤ, Bool, true, false, ◌&&◌, List, length, Option, Some, None, Result, Ok, Err, IsTrue}
+use Rattle.std.specs.Result.{IsErrAnd}
 use Rattle.std.proofs.Common.{refl, sym, ◌∙◌, ap, subst}
 use Rattle.std.proofs.lemmas.Result.{err_from_is_err_and}
 use Rattle.circuits.specs.Circuit.{Circuit, input_count}
 use Rattle.circuits.specs.Valuation.{valuation}
-use Rattle.spec_lang.specs.Evaluated.{IsEvaluated}
+use Rattle.spec_lang.specs.Evaluated.{AreEvaluated, AreValues}
 use Rattle.spec_lang.specs.Placed.{placed, net_values}
 use Rattle.spec_lang.specs.Specification.{Word, Check, Specification}
-use Rattle.spec_lang.specs.Value.{value, all_in_range}
+use Rattle.spec_lang.specs.Value.{all_in_range}
 use Rattle.spec_lang.specs.WellFormed.{IsOver}
 use Rattle.spec_lang.specs.declared.eval_error.EvalError.{EvalError}
 use Rattle.spec_lang.specs.declared.eval_error.EvalError.TheVariants.{Overflow}
@@ -27,15 +27,6 @@ as_many_inputs c s order bits inputs over same is = ap length (inputs_are c s or
 pub values_are : (c : Circuit) (s : Specification) (order : List ℕ) (bits inputs values : List Bool) → IsOver c s → order ≡ s.order → inputs ≡ placed (length order) order bits →
     values ≡ valuation c inputs → values ≡ net_values c s bits
 values_are c s order bits inputs values over same is valued = valued ∙ ap (valuation c) (inputs_are c s order bits inputs over same is)
-
--- what is answered of a check's sides
-abbrev pub AreEvaluated : List Word → Option Check → List Bool → Result (ℤ × ℤ) EvalError → Type 0
-AreEvaluated words o values r =
-    IfSome o (λ sides. IsEvaluated r (all_in_range words values sides.left && all_in_range words values sides.right) (value words values sides.left, value words values sides.right))
-
-abbrev pub AreValues : {E : Type 0} → List Word → Option Check → List Bool → Result (ℤ × ℤ) E → Type 0
-AreValues words o values r =
-    IfSome o (λ sides. OkIff r (IsTrue (all_in_range words values sides.left && all_in_range words values sides.right)) (value words values sides.left, value words values sides.right))
 
 evaluated_value : (E : Type 0) (words : List Word) (o : Option Check) (values : List Bool) (found : ℤ × ℤ) → AreValues {E = E} words o values (Ok found) → AreEvaluated words o values (Ok found)
 evaluated_value E words None values found h = tt

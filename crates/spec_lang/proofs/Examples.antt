@@ -1,9 +1,11 @@
 -- The half adder's specification is well formed, and over the half adder.
-use Rattle.std.proofs.Common.{ℕ, ◌<◌, List, [], ◌∷◌, All, refl}
+use Rattle.std.proofs.Common.{ℕ, ◌<◌, ◌≤◌, List, [], ◌∷◌, All, refl}
 use Rattle.std.proofs.Math.Dec.{lit<, lit≤}
 use Rattle.std.proofs.lemmas.List.Elements.{All-cons, All-nil}
 use Rattle.circuits.specs.Examples.{half}
 use Rattle.spec_lang.proofs.Orders.{range_is_order}
+use Rattle.spec_lang.specs.Size.{check_size}
+use Rattle.spec_lang.specs.declared.limits.TheConstants.{MOST_SYMBOLS}
 use Rattle.spec_lang.specs.Specification.{Word, half_adder, half_adder_check, single}
 use Rattle.spec_lang.specs.WellFormed.{IsSizedWord, NamesWords, IsWellFormed, IsOver}
 
@@ -24,6 +26,7 @@ half_adder_well_formed = record {
   few_checks = lit≤ tt;
   each_word = four IsSizedWord _ _ _ _ (sized _ 0) (sized _ 1) (sized _ 2) (sized _ 3);
   each_check = All-cons (NamesWords 4) half_adder_check [] (record { left = two (λ w. w < 4) 2 3 (lit< tt) (lit< tt); right = two (λ w. w < 4) 0 1 (lit< tt) (lit< tt) }) (All-nil (NamesWords 4));
+  few_symbols = All-cons (λ check. check_size check ≤ MOST_SYMBOLS) half_adder_check [] (lit≤ tt) (All-nil (λ check. check_size check ≤ MOST_SYMBOLS));
 }
 
 one : (net : ℕ) → net < 4 → All (λ net. net < 4) (net ∷ [])

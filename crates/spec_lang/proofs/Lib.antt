@@ -5,5 +5,6 @@ pub mod Naming
 pub mod Onces
 pub mod Orders
 pub mod Placed
+pub mod Sizes
 pub mod Values
 pub mod Words

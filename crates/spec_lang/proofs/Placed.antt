@@ -6,7 +6,7 @@ use Rattle.std.proofs.lemmas.Grind.{get_or_default_zero}
 use Rattle.std.proofs.lemmas.List.Elements.{Contains-get_or}
 use Rattle.std.proofs.lemmas.List.FromFn.{fill_by_all, length-map-range_with_len}
 use Rattle.std.proofs.lemmas.Map.Keys.{IsDistinct-head, IsDistinct-tail}
-use Rattle.std.proofs.lemmas.Option.{slice_get-get_or}
+use Rattle.std.proofs.lemmas.Option.{same_Some, slice_get-get_or}
 use Rattle.circuits.specs.Valuation.{bit_of}
 use Rattle.spec_lang.specs.Placed.{place_in, placed}
 use Rattle.spec_lang.specs.WellFormed.{IsOrder}
@@ -22,11 +22,8 @@ not_here b n e = rw e refl
 pub place_in-at : (xs : List ℕ) (i net : ℕ) → IsDistinct nat_eq xs → slice_get xs i ≡ Some net → place_in xs net ≡ i
 place_in-at [] i net distinct at = absurd (cc)
 place_in-at (x ∷ xs) zero net distinct at =
-    let same : x ≡ net = some_is at in
+    let same : x ≡ net = same_Some x net at in
     let here : (x == net) ≡ true = grind (arith, same) in rw here refl
-  where
-    some_is : {a b : ℕ} → Some a ≡ Some b → a ≡ b
-    some_is e = cc
 place_in-at (x ∷ xs) (suc i) net distinct at =
     let other : (x == net) ≡ false = apart xs i (IsDistinct-head nat_eq x xs distinct) at in
     not_here (x == net) (place_in xs net) other ∙ ap (λ (n : ℕ). n + 1) (place_in-at xs i net (IsDistinct-tail nat_eq x xs distinct) at) ∙ add-one i

@@ -1,11 +1,12 @@
 -- What the evaluation of a check answers.
-use Rattle.std.specs.Prelude.{◌≡◌, ℕ, ℤ, pos, Bool, true, false, ◌&&◌, List, [], ◌∷◌, Result, Ok, Err, IsTrue, ⊤, codes, refl}
+use Rattle.std.specs.Prelude.{◌≡◌, ℕ, ℤ, pos, Bool, true, false, ◌&&◌, List, [], ◌∷◌, Option, Result, Ok, Err, IfSome, IsTrue, ⊤, codes, refl}
+use Rattle.std.specs.Result.{OkIff}
 use Rattle.circuits.specs.Examples.{half}
 use Rattle.spec_lang.specs.declared.eval_error.EvalError.{EvalError}
 use Rattle.spec_lang.specs.declared.eval_error.EvalError.TheVariants.{Overflow, Memory}
 use Rattle.spec_lang.specs.Formula.{Formula, number, sum}
 use Rattle.spec_lang.specs.Placed.{net_values}
-use Rattle.spec_lang.specs.Specification.{half_adder, half_adder_check}
+use Rattle.spec_lang.specs.Specification.{Word, Check, half_adder, half_adder_check}
 use Rattle.spec_lang.specs.Value.{value, all_in_range}
 
 -- The values where all is in range, and an overflow only where something is not. Want of memory is answered anywhere.
@@ -13,6 +14,18 @@ abbrev pub IsEvaluated : Result (ℤ × ℤ) EvalError → Bool → ℤ × ℤ �
 IsEvaluated (Ok found) within values = IsTrue within × (found ≡ values)
 IsEvaluated (Err Overflow) within values = within ≡ false
 IsEvaluated (Err Memory) within values = ⊤
+
+-- the values of both sides of a check, exactly where the value of each sub-formula of either is in range
+abbrev pub AreValues : {E : Type 0} → List Word → Option Check → List Bool → Result (ℤ × ℤ) E → Type 0
+AreValues words check values r = IfSome check (λ sides. OkIff r
+    (IsTrue (all_in_range words values sides.left && all_in_range words values sides.right))
+    (value words values sides.left, value words values sides.right))
+
+-- the same of an evaluation that takes memory
+abbrev pub AreEvaluated : List Word → Option Check → List Bool → Result (ℤ × ℤ) EvalError → Type 0
+AreEvaluated words check values r = IfSome check (λ sides. IsEvaluated r
+    (all_in_range words values sides.left && all_in_range words values sides.right)
+    (value words values sides.left, value words values sides.right))
 
 abbrev pub eval_error_text : EvalError → List ℕ
 eval_error_text Overflow = codes "a value needs more than 127 bits"

@@ -14,7 +14,17 @@ pub data Formula : Type 0 where
   difference : Formula → Formula → Formula
   product : Formula → Formula → Formula
 
--- An operand behind a `Boxed` is a row of one expression, after its shape.
+-- the formula of each variant of an expression: exactly one function goes so
+pub record GoesByVariant (f : Expr → Formula) : Type 0 where
+  pub of_number : (z : ℤ) → f (e.Number z) ≡ number z
+  pub of_word : (w : ℕ) → f (e.Word w) ≡ word w
+  pub of_neg : (a : Expr) → f (e.Neg a) ≡ negative (f a)
+  pub of_add : (a b : Expr) → f (e.Add a b) ≡ sum (f a) (f b)
+  pub of_sub : (a b : Expr) → f (e.Sub a b) ≡ difference (f a) (f b)
+  pub of_mul : (a b : Expr) → f (e.Mul a b) ≡ product (f a) (f b)
+
+-- The function that goes so, in the names that the compiler makes: an operand behind a `Boxed` is a row of
+-- one expression, after its shape.
 abbrev pub formula_of : Expr → Formula
 formula_of (Number z) = number z
 formula_of (Word w) = word w
@@ -23,14 +33,8 @@ formula_of (Add' _ (more_of-Expr a end_of-Expr) _ (more_of-Expr b end_of-Expr)) 
 formula_of (Sub' _ (more_of-Expr a end_of-Expr) _ (more_of-Expr b end_of-Expr)) = difference (formula_of a) (formula_of b)
 formula_of (Mul' _ (more_of-Expr a end_of-Expr) _ (more_of-Expr b end_of-Expr)) = product (formula_of a) (formula_of b)
 
--- the formula of an expression, variant by variant
-pub record FormulaGoesByCases : Type 0 where
-  pub of_number : (z : ℤ) → formula_of (e.Number z) ≡ number z
-  pub of_word : (w : ℕ) → formula_of (e.Word w) ≡ word w
-  pub of_neg : (a : Expr) → formula_of (e.Neg a) ≡ negative (formula_of a)
-  pub of_add : (a b : Expr) → formula_of (e.Add a b) ≡ sum (formula_of a) (formula_of b)
-  pub of_sub : (a b : Expr) → formula_of (e.Sub a b) ≡ difference (formula_of a) (formula_of b)
-  pub of_mul : (a b : Expr) → formula_of (e.Mul a b) ≡ product (formula_of a) (formula_of b)
+abbrev pub FormulaGoesByCases : Type 0
+FormulaGoesByCases = GoesByVariant formula_of
 
 -- w1 - w0 * -3
 abbrev written : Expr

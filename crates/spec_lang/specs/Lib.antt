@@ -2,6 +2,7 @@ pub mod Evaluated
 pub mod Formula
 pub mod Named
 pub mod Placed
+pub mod Size
 pub mod Specification
 pub mod Stored
 pub mod Value

@@ -1,4 +1,5 @@
--- A formula is stored as the expression that it is the formula of.
+-- For proofs alone: how the models of checks and specifications are stored. A formula is stored as the expression
+-- that it is the formula of.
 use Rattle.std.specs.Prelude.{◌≡◌, ℕ, List, refl}
 use Rattle.std.specs.Coded.{Coded, code_by, coded×, coded_ℕ, coded_list}
 use Rattle.std.proofs.Common.{ap, ◌∙◌}

@@ -3,23 +3,16 @@ use Rattle.std.specs.Prelude.{◌≡◌, ℕ, ◌<◌, ◌≤◌, List, length, 
 use Rattle.std.specs.List.{IsDistinct}
 use Rattle.std.proofs.Math.Dec.{lit<, lit≤}
 use Rattle.circuits.specs.Circuit.{Circuit, input_count, net_count}
+use Rattle.spec_lang.specs.declared.limits.TheConstants.{MOST_WORDS, MOST_CHECKS, MOST_NETS_OF_WORD, MOST_SYMBOLS}
 use Rattle.spec_lang.specs.Formula.{Formula}
 use Rattle.spec_lang.specs.Named.{namings}
+use Rattle.spec_lang.specs.Size.{check_size}
 use Rattle.spec_lang.specs.Specification.{Word, Check, Specification, single}
-
-abbrev pub most_words : ℕ
-most_words = 64
-
-abbrev pub most_checks : ℕ
-most_checks = 64
-
-abbrev pub most_nets_of_word : ℕ
-most_nets_of_word = 127
 
 -- a word has nets, and not too many
 pub record IsSizedWord (w : Word) : Type 0 where
   pub some : 0 < length w.nets
-  pub few : length w.nets ≤ most_nets_of_word
+  pub few : length w.nets ≤ MOST_NETS_OF_WORD
 
 -- each word that the formula names is one of so many
 abbrev pub NamesBelow : ℕ → Formula → Type 0
@@ -37,10 +30,11 @@ pub record IsOrder (order : List ℕ) : Type 0 where
 pub record IsWellFormed (s : Specification) : Type 0 where
   pub order : IsOrder s.order
   pub one_letter_each : length s.letters ≡ length s.order
-  pub few_words : length s.words ≤ most_words
-  pub few_checks : length s.checks ≤ most_checks
+  pub few_words : length s.words ≤ MOST_WORDS
+  pub few_checks : length s.checks ≤ MOST_CHECKS
   pub each_word : All IsSizedWord s.words
   pub each_check : All (NamesWords (length s.words)) s.checks
+  pub few_symbols : All (λ check. check_size check ≤ MOST_SYMBOLS) s.checks
 
 -- the order is over the circuit's inputs, and the words over its nets
 pub record IsOver (c : Circuit) (s : Specification) : Type 0 where

@@ -20,10 +20,12 @@ impl Model for Check {
 
     ghost coded = { check_code };
 
-    ghost view = { λ check. record { left = formula_of check.left; right = formula_of check.right } };
+    ghost view = { λ check.
+        record { left = formula_of check.left; right = formula_of check.right } };
 }
 
 impl Check {
+    /// The check that these are equal.
     pub fn new(left: Expr, right: Expr) -> Check
         ensures { result ≡ record { left = formula_of left; right = formula_of right } }
     {
@@ -32,7 +34,8 @@ impl Check {
 
     /// The left and the right side.
     pub fn sides(&self) -> (&Expr, &Expr)
-        ensures { self.now ≡ record { left = formula_of result.0.now; right = formula_of result.1.now } }
+        ensures { self.now
+            ≡ record { left = formula_of result.0.now; right = formula_of result.1.now } }
     {
         (&self.left, &self.right)
     }

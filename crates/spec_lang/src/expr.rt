@@ -23,24 +23,28 @@ pub enum Expr {
 }
 
 impl Expr {
+    /// `-a`
     pub fn neg(alloc: Global, a: Expr) -> Result<Expr, AllocError>
         ensures { IfOk result (λ x. formula_of x ≡ negative (formula_of a)) }
     {
         Ok(Expr::Neg(Boxed::new(alloc, a)?))
     }
 
+    /// `a + b`
     pub fn add(alloc: Global, a: Expr, b: Expr) -> Result<Expr, AllocError>
         ensures { IfOk result (λ x. formula_of x ≡ sum (formula_of a) (formula_of b)) }
     {
         Ok(Expr::Add(Boxed::new(alloc, a)?, Boxed::new(alloc, b)?))
     }
 
+    /// `a - b`
     pub fn sub(alloc: Global, a: Expr, b: Expr) -> Result<Expr, AllocError>
         ensures { IfOk result (λ x. formula_of x ≡ difference (formula_of a) (formula_of b)) }
     {
         Ok(Expr::Sub(Boxed::new(alloc, a)?, Boxed::new(alloc, b)?))
     }
 
+    /// `a * b`
     pub fn mul(alloc: Global, a: Expr, b: Expr) -> Result<Expr, AllocError>
         ensures { IfOk result (λ x. formula_of x ≡ product (formula_of a) (formula_of b)) }
     {

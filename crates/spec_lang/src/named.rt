@@ -55,7 +55,8 @@ pub(crate) fn words_of_sides(
     left: &Expr,
     right: &Expr,
 ) -> Result<Vec<u32>, AllocError>
-    ensures { IfOk result (λ words. words.items ≡ each_once (words_named (formula_of left.now) ++ words_named (formula_of right.now))) }
+    ensures { IfOk result (λ words. words.items
+        ≡ each_once (words_named (formula_of left.now) ++ words_named (formula_of right.now))) }
 {
     let mut words = words_named(alloc, left)?;
     let right = words_named(alloc, right)?;
@@ -69,7 +70,8 @@ pub(crate) fn put_nets(
     numbers: &[u32],
     out: &mut Vec<u32>,
 ) -> Result<(), AllocError>
-    ensures { OnOk result (out.new.items ≡ out.old.items ++ flat_map (nets_of words.now) numbers.now) }
+    ensures { OnOk result
+        (out.new.items ≡ out.old.items ++ flat_map (nets_of words.now) numbers.now) }
 {
     for number in numbers {
         out.extend_from_slice(nets_at(words, *number))?;
@@ -84,7 +86,8 @@ pub(crate) fn nets_of_sides(
     left: &Expr,
     right: &Expr,
 ) -> Result<Vec<u32>, AllocError>
-    ensures { IfOk result (λ nets. nets.items ≡ nets_of_words words.now (words_named (formula_of left.now) ++ words_named (formula_of right.now))) }
+    ensures { IfOk result (λ nets. nets.items
+        ≡ nets_of_words words.now (words_named (formula_of left.now) ++ words_named (formula_of right.now))) }
 {
     let left = words_named(alloc, left)?;
     let right = words_named(alloc, right)?;

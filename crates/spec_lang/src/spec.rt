@@ -1,12 +1,12 @@
-ghost use Rattle.std.specs.Prelude.{◌≡◌, ◌<◌, ◌≤◌, length, slice_get, IfOk, IfSome, IsTrue, Some, ◌&&◌};
-ghost use Rattle.std.specs.Result.{OkIff};
-ghost use Rattle.spec_lang.specs.Evaluated.{IsEvaluated};
+ghost use Rattle.std.specs.Prelude.{◌≡◌, ◌<◌, ◌≤◌, length, slice_get, IfOk, IfSome, Some};
+ghost use Rattle.spec_lang.specs.Evaluated.{AreEvaluated, AreValues};
 ghost use Rattle.spec_lang.specs.Formula.{formula_of};
 ghost use Rattle.spec_lang.specs.Named.{nets_named, words_of_check};
 ghost use Rattle.spec_lang.specs.Placed.{net_values};
 ghost use Rattle.spec_lang.specs.Specification.{specification};
-ghost use Rattle.spec_lang.specs.Value.{nets_of, value, all_in_range};
-ghost use Rattle.spec_lang.specs.WellFormed.{IsOver, IsWellFormed, most_nets_of_word};
+ghost use Rattle.spec_lang.specs.Value.{nets_of};
+ghost use Rattle.spec_lang.specs.WellFormed.{IsOver, IsWellFormed};
+ghost use Rattle.spec_lang.specs.declared.limits.TheConstants.{MOST_NETS_OF_WORD};
 
 use crate::check::Check;
 use crate::eval_error::EvalError;
@@ -39,12 +39,15 @@ impl Model for Spec {
 
     ghost coded = { specification_code };
 
-    ghost view = { λ spec. specification spec.order.items spec.letters.items spec.words.items spec.checks.items };
+    ghost view = { λ spec.
+        specification spec.order.items spec.letters.items spec.words.items spec.checks.items };
 
-    ghost invariant = { λ spec. IsWellFormed (specification spec.order.items spec.letters.items spec.words.items spec.checks.items) };
+    ghost invariant = { λ spec. IsWellFormed
+        (specification spec.order.items spec.letters.items spec.words.items spec.checks.items) };
 }
 
 impl Spec {
+    /// The specification of all these. No expression of it is deeper than a check has symbols.
     pub fn new(order: Vec<u32>, letters: Vec<Decomp>, words: Vec<Word>, checks: Vec<Check>) -> Spec
         requires { IsWellFormed (specification order.items letters.items words.items checks.items) }
         ensures { result ≡ specification order.items letters.items words.items checks.items }
@@ -86,7 +89,7 @@ impl Spec {
         requires { word < length self.now.words }
         ensures nets { result.now ≡ nets_of self.now.words word }
         ensures some { 0 < length result.now }
-        ensures few { length result.now ≤ most_nets_of_word }
+        ensures few { length result.now ≤ MOST_NETS_OF_WORD }
     {
         self.words[word as usize].nets()
     }
@@ -102,7 +105,8 @@ impl Spec {
     /// The left and the right side of a check.
     pub fn check(&self, check: u32) -> (&Expr, &Expr)
         requires { check < length self.now.checks }
-        ensures { slice_get self.now.checks check ≡ Some (record { left = formula_of result.0.now; right = formula_of result.1.now }) }
+        ensures { slice_get self.now.checks check
+            ≡ Some (record { left = formula_of result.0.now; right = formula_of result.1.now }) }
     {
         self.checks[check as usize].sides()
     }
@@ -111,7 +115,8 @@ impl Spec {
     /// before the right.
     pub fn words_named(&self, check: u32) -> Result<Vec<u32>, AllocError>
         requires { check < length self.now.checks }
-        ensures { IfOk result (λ words. IfSome (slice_get self.now.checks check) (λ sides. words.items ≡ words_of_check sides)) }
+        ensures { IfOk result (λ words.
+            IfSome (slice_get self.now.checks check) (λ sides. words.items ≡ words_of_check sides)) }
     {
         let (left, right) = self.check(check);
         words_of_sides(*self.order.allocator(), left, right)
@@ -121,7 +126,8 @@ impl Spec {
     /// the right, and in a word the net of weight 1 first.
     pub fn named(&self, check: u32) -> Result<Vec<u32>, AllocError>
         requires { check < length self.now.checks }
-        ensures { IfOk result (λ nets. IfSome (slice_get self.now.checks check) (λ sides. nets.items ≡ nets_named self.now sides)) }
+        ensures { IfOk result (λ nets.
+            IfSome (slice_get self.now.checks check) (λ sides. nets.items ≡ nets_named self.now sides)) }
     {
         let (left, right) = self.check(check);
         nets_of_sides(*self.order.allocator(), &self.words, left, right)
@@ -131,9 +137,7 @@ impl Spec {
     /// a sub-expression of either side is out of range.
     pub fn sides_at(&self, check: u32, values: &[bool]) -> Result<(Weight, Weight), Overflow>
         requires { check < length self.now.checks }
-        ensures { IfSome (slice_get self.now.checks check) (λ sides. OkIff result
-            (IsTrue (all_in_range self.now.words values.now sides.left && all_in_range self.now.words values.now sides.right))
-            (value self.now.words values.now sides.left, value self.now.words values.now sides.right)) }
+        ensures { AreValues self.now.words (slice_get self.now.checks check) values.now result }
     {
         let (left, right) = self.check(check);
         values_of(left, right, &self.words, values)
@@ -150,10 +154,8 @@ impl Spec {
         requires check { check < length self.now.checks }
         requires over { IsOver netlist.now self.now }
         requires bits { length at.now ≡ length self.now.order }
-        ensures { let values = net_values netlist.now self.now at.now in
-            IfSome (slice_get self.now.checks check) (λ sides. IsEvaluated result
-            (all_in_range self.now.words values sides.left && all_in_range self.now.words values sides.right)
-            (value self.now.words values sides.left, value self.now.words values sides.right)) }
+        ensures { AreEvaluated self.now.words (slice_get self.now.checks check)
+            (net_values netlist.now self.now at.now) result }
     {
         let alloc = *self.order.allocator();
         let inputs = inputs_by_number(alloc, &self.order, at)?;

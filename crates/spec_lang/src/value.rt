@@ -3,7 +3,7 @@ ghost use Rattle.std.specs.Result.{OkIff};
 ghost use Rattle.circuits.specs.Valuation.{bit_of};
 ghost use Rattle.spec_lang.specs.Formula.{formula_of};
 ghost use Rattle.spec_lang.specs.Value.{nets_of, word_value, value, all_in_range};
-ghost use Rattle.spec_lang.specs.WellFormed.{most_nets_of_word};
+ghost use Rattle.spec_lang.specs.declared.limits.TheConstants.{MOST_NETS_OF_WORD};
 ghost use Rattle.word_base.specs.Range.{in_range};
 
 use crate::expr::Expr;
@@ -22,7 +22,7 @@ fn bit(values: &[bool], net: u32) -> bool
 /// The nets of a word, and none where there is no such word.
 pub(crate) fn nets_at(words: &[Word], word: u32) -> &[u32]
     ensures nets { result.now ≡ nets_of words.now word }
-    ensures few { length result.now ≤ most_nets_of_word }
+    ensures few { length result.now ≤ MOST_NETS_OF_WORD }
 {
     match words.get(word as usize) {
         Some(word) => word.nets(),
@@ -31,7 +31,7 @@ pub(crate) fn nets_at(words: &[Word], word: u32) -> &[u32]
 }
 
 fn value_of_nets(nets: &[u32], values: &[bool]) -> u128
-    requires { length nets.now ≤ most_nets_of_word }
+    requires { length nets.now ≤ MOST_NETS_OF_WORD }
     ensures value { result ≡ word_value values.now nets.now }
     ensures below { result < 2 ^ 127 }
 {
@@ -47,7 +47,7 @@ fn value_of_nets(nets: &[u32], values: &[bool]) -> u128
 }
 
 fn value_of_word(nets: &[u32], values: &[bool]) -> Weight
-    requires { length nets.now ≤ most_nets_of_word }
+    requires { length nets.now ≤ MOST_NETS_OF_WORD }
     ensures { result ≡ pos (word_value values.now nets.now) }
 {
     Weight::new(value_of_nets(nets, values) as i128).unwrap()
@@ -64,7 +64,8 @@ fn in_range(number: Weight) -> Weight
 
 /// The value of an expression at given values of the nets.
 pub(crate) fn value_of(expr: &Expr, words: &[Word], values: &[bool]) -> Result<Weight, Overflow>
-    ensures { OkIff result (IsTrue (all_in_range words.now values.now (formula_of expr.now))) (value words.now values.now (formula_of expr.now)) }
+    ensures { OkIff result (IsTrue (all_in_range words.now values.now (formula_of expr.now)))
+        (value words.now values.now (formula_of expr.now)) }
 {
     match expr {
         Expr::Number(number) => Ok(in_range(*number)),
@@ -90,8 +91,10 @@ pub(crate) fn values_of(
     values: &[bool],
 ) -> Result<(Weight, Weight), Overflow>
     ensures { OkIff result
-        (IsTrue (all_in_range words.now values.now (formula_of left.now) && all_in_range words.now values.now (formula_of right.now)))
-        (value words.now values.now (formula_of left.now), value words.now values.now (formula_of right.now)) }
+        (IsTrue (all_in_range words.now values.now (formula_of left.now)
+        && all_in_range words.now values.now (formula_of right.now)))
+        (value words.now values.now (formula_of left.now),
+        value words.now values.now (formula_of right.now)) }
 {
     let left = value_of(left, words, values)?;
     let right = value_of(right, words, values)?;

@@ -25,6 +25,7 @@ impl Model for Word {
 }
 
 impl Word {
+    /// The word of this name and these nets.
     pub fn new(name: String, nets: Vec<u32>) -> Word
         requires { IsSizedWord (named_word (string_bytes name) nets.items) }
         ensures { result ≡ named_word (string_bytes name) nets.items }
@@ -32,12 +33,14 @@ impl Word {
         Word { name, nets }
     }
 
+    /// The word's name.
     pub fn name(&self) -> &str
         ensures { result.now ≡ self.now.name }
     {
         self.name.as_str()
     }
 
+    /// The nets by number, the one of weight 1 first.
     pub fn nets(&self) -> &[u32]
         ensures nets { result.now ≡ self.now.nets }
         ensures sized { IsSizedWord self.now }

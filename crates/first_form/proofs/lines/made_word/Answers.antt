@@ -2,7 +2,7 @@ use Rattle.std.proofs.Common.{◌≡◌, ◌∙◌, sym, ap, subst, string_bytes
 use Rattle.spec_lang.specs.Specification.{named_word}
 use Rattle.spec_lang.specs.WellFormed.{IsSizedWord}
 use Rattle.first_form.proofs.NameLemmas.{word_names_are_utf8}
-use Rattle.first_form.proofs.Numbers.{ok_since}
+use Rattle.texts.proofs.NameLemmas.{ok_since}
 use Rattle.first_form.proofs.lines.made_word.Goals as goal
 
 pub unwrap-requires : goal.unwrap-requires

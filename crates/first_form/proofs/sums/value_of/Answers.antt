@@ -2,7 +2,8 @@ use Rattle.std.proofs.Common.{◌≡◌, ◌∙◌, length}
 use Rattle.std.specs.Int.{w128}
 use Rattle.std.specs.Str.Parse.{digits_value}
 use Rattle.std.proofs.lemmas.Str.Parse.{parse_signed_digits}
-use Rattle.first_form.proofs.Numbers.{digits_are_numerals, digits_are_utf8, ok_since, ok_below}
+use Rattle.first_form.proofs.Numbers.{digits_are_numerals, digits_are_utf8, ok_below}
+use Rattle.texts.proofs.NameLemmas.{ok_since}
 use Rattle.first_form.proofs.sums.value_of.Goals as goal
 
 pub unwrap-requires : goal.unwrap-requires

@@ -1,0 +1,6 @@
+use Rattle.std.proofs.Common.{sym, ◌∙◌}
+use Rattle.texts.proofs.Places.{none_at_length}
+use Rattle.texts.proofs.white.white_len.Goals as goal
+
+pub returns-in-None-clause-exact : goal.returns-in-None-clause-exact
+returns-in-None-clause-exact c = none_at_length _ c.args.text.now (sym c.end_of_white.ensures ∙ c.in-None.is)
