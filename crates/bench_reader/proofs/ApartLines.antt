@@ -10,9 +10,9 @@ use Rattle.bench_reader.specs.declared.fault.BenchCause.{BenchCause}
 use Rattle.bench_reader.specs.declared.fault.BenchCause.TheVariants.{UnknownGate, BadArity, DuplicateNet, Sequential, TooLarge, NotAscii}
 use Rattle.bench_reader.specs.declared.fault.BenchFault.{BenchFault}
 use Rattle.circuits.specs.Limits.{takes}
-use Rattle.bench_reader.specs.Faults.{fault, form_fault, line_fault, first_cause, is_too_large, is_defined, is_above_127}
+use Rattle.bench_reader.specs.Faults.{fault, form_fault, line_fault, first_cause, is_too_large, is_defined}
 use Rattle.bench_reader.specs.Forms.{Form, empty, input, output, gate, no_form, form_of}
-use Rattle.bench_reader.specs.Lines.{uncommented}
+use Rattle.texts.specs.Lines.{is_above_127, uncommented}
 use Rattle.bench_reader.specs.Reading.{first_line_fault}
 use Rattle.bench_reader.specs.Statements.{Statement, says_input, says_output, says_gate, statement, said_by, said, input_name, gate_name, nets}
 use Rattle.bench_reader.specs.Words.{gate_word}

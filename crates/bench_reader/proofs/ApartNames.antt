@@ -7,7 +7,7 @@ use Rattle.std.proofs.lemmas.List.{length_push}
 use Rattle.std.proofs.lemmas.List.Folds.{list_any-append}
 use Rattle.std.proofs.lemmas.Slice.Eq.{bytes_eq-Decides}
 use Rattle.bench_reader.specs.Statements.{number}
-use Rattle.bench_reader.proofs.Places.{position-cons}
+use Rattle.texts.proofs.Places.{position-cons}
 
 -- no name is one after it
 abbrev pub AreApart : List (List ℕ) → Type 0

@@ -10,7 +10,7 @@ use Rattle.bench_reader.specs.Statements.{Statement, says_input, says_output, sa
 use Rattle.bench_reader.proofs.ApartNames.{AreNumbered}
 use Rattle.bench_reader.proofs.Drafts.{gate_lines}
 use Rattle.bench_reader.proofs.FirstCalls.{AllFrom, from_lower, least-cons, IsFirst, shifted}
-use Rattle.bench_reader.proofs.Places.{position-cons}
+use Rattle.texts.proofs.Places.{position-cons}
 
 -- the call of a net's gate, where the gates begin at the net a
 abbrev pub call_in : ℕ → List GateLine → ℕ → ℕ

@@ -14,7 +14,8 @@ use Rattle.netlist.specs.declared.fault.NetCause.TheVariants.{UndefinedNet, Cycl
 use Rattle.bench_reader.specs.declared.fault.BenchFault.{BenchFault}
 use Rattle.bench_reader.specs.Faults.{fault}
 use Rattle.circuits.specs.Cone.{reaches_itself}
-use Rattle.bench_reader.specs.Later.{line_of, names_undefined, is_on_cycle, first_where, later_fault}
+use Rattle.bench_reader.specs.Later.{names_undefined, is_on_cycle, first_where, later_fault}
+use Rattle.bench_reader.proofs.NumberedLines.{line_of, first_where-placed}
 use Rattle.bench_reader.specs.Statements.{Statement, said, input_name, gate_name, nets, numbered, circuit}
 use Rattle.bench_reader.specs.Steps.{cause_of}
 use Rattle.bench_reader.proofs.ApartNames.{AreApart, numbered_apart}
@@ -66,10 +67,10 @@ moved text cause None = refl
 moved text cause (Some k) = refl
 
 pub undefined_at_line : (text : List (List ℕ)) → length (said text) < 2 ^ 32 → option_map (at_line text) (undefined_fault (drafted (said text))) ≡ first_where (names_undefined (said text)) (cause_of UndefinedNet) text
-undefined_at_line text h = ap (λ o. option_map (at_line text) (option_map (λ at. net.fault at UndefinedNet) o)) (undefined_is_first (said text) h) ∙ moved text UndefinedNet (position (names_undefined (said text)) (said text))
+undefined_at_line text h = ap (λ o. option_map (at_line text) (option_map (λ at. net.fault at UndefinedNet) o)) (undefined_is_first (said text) h) ∙ moved text UndefinedNet (position (names_undefined (said text)) (said text)) ∙ first_where-placed (names_undefined (said text)) (cause_of UndefinedNet) text
 
 pub cycle_at_line : (text : List (List ℕ)) → length (said text) < 2 ^ 32 → AreApart (nets (said text)) → option_map (at_line text) (cycle_fault (drafted (said text))) ≡ first_where (is_on_cycle (said text)) (cause_of Cycle) text
-cycle_at_line text h apart = ap (λ o. option_map (at_line text) (option_map (λ at. net.fault at Cycle) o)) (cycle_is_first (said text) h apart) ∙ moved text Cycle (position (is_on_cycle (said text)) (said text))
+cycle_at_line text h apart = ap (λ o. option_map (at_line text) (option_map (λ at. net.fault at Cycle) o)) (cycle_is_first (said text) h apart) ∙ moved text Cycle (position (is_on_cycle (said text)) (said text)) ∙ first_where-placed (is_on_cycle (said text)) (cause_of Cycle) text
 
 first_parts : (text : List (List ℕ)) (d : Draft) (o : Option NetFault) → undefined_fault d ≡ o → option_map (at_line text) (finish_fault d) ≡ option_or (option_map (at_line text) o) (option_map (at_line text) (cycle_fault d))
 first_parts text d None e = rw e refl

@@ -12,7 +12,7 @@ use Rattle.bench_reader.specs.Faults.{is_defined}
 use Rattle.bench_reader.specs.Later.{names_undefined}
 use Rattle.bench_reader.specs.Statements.{Statement, says_input, says_output, says_gate}
 use Rattle.bench_reader.proofs.Drafts.{gate_lines, output_lines}
-use Rattle.bench_reader.proofs.Places.{position-cons}
+use Rattle.texts.proofs.Places.{position-cons}
 
 -- ---- the least of some numbers
 

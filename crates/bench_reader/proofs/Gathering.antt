@@ -1,5 +1,5 @@
 -- Gathering what lines say, line by line.
-use Rattle.std.proofs.Common.{◌≡◌, ℕ, zero, suc, ◌+◌, ◌^◌, ◌<◌, ◌≤◌, Bool, true, false, cond, List, [], ◌∷◌, ◌++◌, length, take, drop, filter_map, Option, Some, None, Err, option_map, option_to_list, is_some, refl, sym, ap, subst, ◌∙◌, arith, add-one}
+use Rattle.std.proofs.Common.{◌≡◌, ℕ, zero, suc, ◌+◌, ◌^◌, ◌<◌, ◌≤◌, Bool, true, false, cond, List, [], ◌∷◌, ◌++◌, length, map, take, drop, filter_map, Option, Some, None, Err, option_map, option_to_list, is_some, refl, sym, ap, subst, ◌∙◌, arith, add-one}
 use Rattle.std.specs.List.{cons_option}
 use Rattle.std.specs.Option.{option_or}
 use Rattle.std.proofs.lemmas.List.{append-nil, length_push, take-append-drop}
@@ -8,14 +8,14 @@ use Rattle.std.proofs.lemmas.List.Sums.{fold_push}
 use Rattle.netlist.specs.Draft.{Draft, nothing}
 use Rattle.bench_reader.specs.declared.fault.BenchCause.{BenchCause}
 use Rattle.bench_reader.specs.Faults.{fault, line_fault}
-use Rattle.bench_reader.specs.Gathered.{IsWhole, IsAtLine, number_more, Gathers}
+use Rattle.bench_reader.specs.Gathered.{line_numbers, IsWhole, IsAtLine, number_more, Gathers}
 use Rattle.bench_reader.specs.declared.fault.BenchError.{BenchError}
-use Rattle.bench_reader.specs.declared.statement.LineError.{LineError}
-use Rattle.bench_reader.specs.declared.statement.LineError.TheVariants as line_errors
-use Rattle.bench_reader.specs.Later.{saying}
+use Rattle.bench_reader.specs.declared.line_error.LineError.{LineError}
+use Rattle.bench_reader.specs.declared.line_error.LineError.TheVariants as line_errors
+use Rattle.bench_reader.specs.Later.{said_at}
 use Rattle.bench_reader.specs.Reading.{first_line_fault}
 use Rattle.bench_reader.specs.Statements.{Statement, said_by, said}
-use Rattle.bench_reader.specs.Steps.{with_statement, with_said, drafted, line_fault_after, Adds, Refuses}
+use Rattle.bench_reader.specs.Steps.{with_statement, with_said, drafted, line_fault_after, Adds, RefusesLine}
 use Rattle.bench_reader.proofs.LineFaults.{line_parts}
 
 -- after n lines of the text, with these lines left
@@ -23,7 +23,7 @@ pub record IsGathered (text : List (List ℕ)) (n : ℕ) (maker : Draft) (number
   pub rest : drop n text ≡ left
   pub size : length (take n text) ≡ n
   pub draft : maker ≡ drafted (said (take n text))
-  pub lines : numbers ≡ saying 1 (take n text)
+  pub lines : numbers ≡ line_numbers 1 (take n text)
   pub faults : first_line_fault 1 [] text ≡ first_line_fault (n + 1) (said (take n text)) left
 
 -- ---- one line more
@@ -45,14 +45,19 @@ drafted_more : (all : List Statement) (o : Option Statement) → drafted (all ++
 drafted_more all None = ap drafted (append-nil all)
 drafted_more all (Some s) = fold_push with_statement nothing all s
 
-saying_more : (n m : ℕ) (done : List (List ℕ)) (line : List ℕ) → n + length done ≡ m → saying n (done ++ line ∷ []) ≡ saying n done ++ number_more m (is_some (said_by line))
-saying_more n m [] line e = ap (λ k. number_more k (is_some (said_by line))) (omega (arith, e))
-saying_more n m (first ∷ done) line e = at (is_some (said_by first)) (saying_more (n + 1) m done line (omega (arith, e)))
+line_numbers_more : (n m : ℕ) (done : List (List ℕ)) (line : List ℕ) → n + length done ≡ m → line_numbers n (done ++ line ∷ []) ≡ line_numbers n done ++ number_more m (is_some (said_by line))
+line_numbers_more n m [] line e = at (said_by line)
   where
-    at : (b : Bool) → saying (n + 1) (done ++ line ∷ []) ≡ saying (n + 1) done ++ number_more m (is_some (said_by line))
-        → cond b (n ∷ saying (n + 1) (done ++ line ∷ [])) (saying (n + 1) (done ++ line ∷ [])) ≡ cond b (n ∷ saying (n + 1) done) (saying (n + 1) done) ++ number_more m (is_some (said_by line))
-    at true h = ap (λ ns. n ∷ ns) h
-    at false h = h
+    at : (o : Option Statement) → map (λ (p : ℕ × Statement). p.0) (cons_option (option_map (λ (s : Statement). (n, s)) o) []) ≡ number_more m (is_some o)
+    at None = refl
+    at (Some s) = ap (λ k. k ∷ []) (omega (arith, e))
+line_numbers_more n m (first ∷ done) line e = at (said_by first) (line_numbers_more (n + 1) m done line (omega (arith, e)))
+  where
+    at : (o : Option Statement) → line_numbers (n + 1) (done ++ line ∷ []) ≡ line_numbers (n + 1) done ++ number_more m (is_some (said_by line))
+        → map (λ (p : ℕ × Statement). p.0) (cons_option (option_map (λ (s : Statement). (n, s)) o) (said_at (n + 1) (done ++ line ∷ [])))
+        ≡ map (λ (p : ℕ × Statement). p.0) (cons_option (option_map (λ (s : Statement). (n, s)) o) (said_at (n + 1) done)) ++ number_more m (is_some (said_by line))
+    at None h = h
+    at (Some s) h = ap (λ ns. n ∷ ns) h
 
 pub said-shorter : (text : List (List ℕ)) → length (said text) ≤ length text
 said-shorter [] = omega arith
@@ -83,9 +88,9 @@ goes_on text n maker after numbers line more says h g a =
       draft = a.added ∙ ap (λ d. with_said d (said_by line)) g.draft ∙ sym (drafted_more (said (take n text)) (said_by line)) ∙ sym (ap drafted saids);
       lines =
           ap (λ ns. ns ++ number_more (n + 1) says) g.lines
-          ∙ ap (λ b. saying 1 (take n text) ++ number_more (n + 1) b) a.told
-          ∙ sym (saying_more 1 (n + 1) (take n text) line (omega (arith, g.size)))
-          ∙ sym (ap (saying 1) taken);
+          ∙ ap (λ b. line_numbers 1 (take n text) ++ number_more (n + 1) b) a.told
+          ∙ sym (line_numbers_more 1 (n + 1) (take n text) line (omega (arith, g.size)))
+          ∙ sym (ap (line_numbers 1) taken);
       faults =
           g.faults
           ∙ ap (λ o. option_or (option_map (fault (n + 1)) o) (first_line_fault (n + 1 + 1) (said (take n text) ++ option_to_list (said_by line)) more)) (fault_here text n maker numbers line more h g ∙ a.no_fault)
@@ -103,11 +108,11 @@ ends text n maker numbers g =
     record {
       no_fault = g.faults;
       draft = g.draft ∙ ap (λ ls. drafted (said ls)) all;
-      lines = g.lines ∙ ap (saying 1) all;
+      lines = g.lines ∙ ap (line_numbers 1) all;
     }
 
 -- a refused line ends the loop
 pub refused : (text : List (List ℕ)) (n : ℕ) (maker : Draft) (numbers : List ℕ) (line : List ℕ) (more : List (List ℕ)) (line_error : LineError) (error : BenchError) → n < 2 ^ 32
-    → IsGathered text n maker numbers (line ∷ more) → Refuses line_error (line_fault_after maker line) → IsAtLine (n + 1) line_error error → Gathers (Err error) text
+    → IsGathered text n maker numbers (line ∷ more) → RefusesLine line_error maker line → IsAtLine (n + 1) line_error error → Gathers (Err error) text
 refused text n maker numbers line more (line_errors.Fault cause) error h g e at = subst (λ x. Gathers (Err x) text) (sym at) (stops text n maker numbers line more cause h g e)
 refused text n maker numbers line more line_errors.Memory error h g e at = subst (λ x. Gathers (Err x) text) (sym at) tt

@@ -5,9 +5,9 @@ pub mod Drafts
 pub mod Finishing
 pub mod FirstCalls
 pub mod Gathering
+pub mod InputLemmas
 pub mod LineFaults
-pub mod LineLemmas
-pub mod Places
+pub mod NumberedLines
 pub mod Ranges
 pub mod Readings
 pub mod Sizes

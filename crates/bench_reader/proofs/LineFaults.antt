@@ -11,9 +11,9 @@ use Rattle.circuits.specs.declared.gate_word.GateWord.{GateWord}
 use Rattle.bench_reader.specs.declared.fault.BenchCause.{BenchCause}
 use Rattle.bench_reader.specs.declared.fault.BenchCause.TheVariants.{UnknownGate, BadArity, DuplicateNet, Sequential, TooLarge, NotAscii}
 use Rattle.circuits.specs.Limits.{takes}
-use Rattle.bench_reader.specs.Faults.{form_fault, line_fault, first_cause, is_too_large, is_duplicate, is_above_127}
+use Rattle.bench_reader.specs.Faults.{form_fault, line_fault, first_cause, is_too_large, is_duplicate}
 use Rattle.bench_reader.specs.Forms.{Form, empty, input, output, gate, no_form, form_of}
-use Rattle.bench_reader.specs.Lines.{uncommented}
+use Rattle.texts.specs.Lines.{is_above_127, uncommented}
 use Rattle.bench_reader.specs.Statements.{Statement, says_gate, gate_name, nets, statement}
 use Rattle.bench_reader.specs.Steps.{own_form_fault, draft_fault, line_fault_after, cause_of}
 use Rattle.bench_reader.specs.Words.{gate_word}

@@ -1,6 +1,6 @@
 -- A draft's fault speaks of one of its calls.
-use Rattle.std.proofs.Common.{◌≡◌, ℕ, suc, ◌+◌, ◌^◌, ◌<◌, ◌≤◌, Bool, cond, List, [], ◌∷◌, length, Option, Some, None, IfSome, option_map, is_some, refl, sym, ap, subst, arith, position}
-use Rattle.std.specs.List.{cons_option}
+use Rattle.std.proofs.Common.{◌≡◌, ℕ, ◌+◌, ◌^◌, ◌<◌, ◌≤◌, Bool, List, [], length, Option, Some, None, IfSome, option_map, refl, sym, ap, subst, ◌∙◌, arith, position}
+use Rattle.std.proofs.lemmas.List.{length-map}
 use Rattle.std.proofs.lemmas.List.Quantifiers.{position-Some}
 use Rattle.netlist.specs.Draft.{Draft}
 use Rattle.netlist.specs.Fault.{fault}
@@ -8,10 +8,12 @@ use Rattle.netlist.specs.Finish.{undefined_fault, cycle_fault, finish_fault}
 use Rattle.netlist.specs.declared.fault.NetFault.{NetFault}
 use Rattle.netlist.specs.declared.fault.NetCause.{NetCause}
 use Rattle.netlist.specs.declared.fault.NetCause.TheVariants.{UndefinedNet, Cycle}
-use Rattle.bench_reader.specs.Later.{saying, names_undefined, is_on_cycle}
-use Rattle.bench_reader.specs.Statements.{Statement, says_input, said_by, said, nets}
+use Rattle.bench_reader.specs.Gathered.{line_numbers}
+use Rattle.bench_reader.specs.Later.{said_at, names_undefined, is_on_cycle}
+use Rattle.bench_reader.specs.Statements.{Statement, says_input, said, nets}
 use Rattle.bench_reader.specs.Steps.{drafted}
 use Rattle.bench_reader.proofs.ApartNames.{AreApart}
+use Rattle.bench_reader.proofs.NumberedLines.{statements-said_at}
 use Rattle.bench_reader.proofs.Finishing.{undefined_is_first, cycle_is_first}
 
 abbrev pub IsWithin : ℕ → Option NetFault → Type 0
@@ -37,10 +39,5 @@ first_within m d (Some f) e h k = rw e h
 pub finish_within : (all : List Statement) → length all < 2 ^ 32 → AreApart (nets all) → IsWithin (length all) (finish_fault (drafted all))
 finish_within all h apart = first_within (length all) (drafted all) (undefined_fault (drafted all)) refl (undefined_within all h) (cycle_within all h apart)
 
-pub length-saying : (n : ℕ) (text : List (List ℕ)) → length (saying n text) ≡ length (said text)
-length-saying n [] = refl
-length-saying n (line ∷ text) = at (said_by line) (length-saying (n + 1) text)
-  where
-    at : (o : Option Statement) → length (saying (n + 1) text) ≡ length (said text) → length (cond (is_some o) (n ∷ saying (n + 1) text) (saying (n + 1) text)) ≡ length (cons_option o (said text))
-    at None h = h
-    at (Some s) h = ap suc h
+pub length-line_numbers : (n : ℕ) (text : List (List ℕ)) → length (line_numbers n text) ≡ length (said text)
+length-line_numbers n text = length-map (said_at n text) (λ p. p.0) ∙ sym (length-map (said_at n text) (λ p. p.1)) ∙ ap length (statements-said_at n text)

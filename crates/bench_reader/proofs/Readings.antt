@@ -9,7 +9,7 @@ use Rattle.bench_reader.specs.declared.fault.BenchFault.{BenchFault}
 use Rattle.bench_reader.specs.Faults.{fault}
 use Rattle.bench_reader.specs.Gathered.{IsWhole}
 use Rattle.bench_reader.specs.Later.{later_fault}
-use Rattle.bench_reader.specs.Lines.{lines}
+use Rattle.texts.specs.Lines.{lines}
 use Rattle.bench_reader.specs.Reading.{first_line_fault, unless, reading}
 use Rattle.bench_reader.specs.Statements.{said, circuit}
 use Rattle.bench_reader.specs.Steps.{drafted, cause_of}
@@ -17,7 +17,7 @@ use Rattle.bench_reader.proofs.ApartLines.{apart_lines}
 use Rattle.bench_reader.proofs.Drafts.{draft_of-circuit}
 use Rattle.bench_reader.proofs.Finishing.{at_line, finish_at_line}
 use Rattle.bench_reader.proofs.Gathering.{said-shorter}
-use Rattle.bench_reader.proofs.Ranges.{IsWithin, finish_within, length-saying}
+use Rattle.bench_reader.proofs.Ranges.{IsWithin, finish_within, length-line_numbers}
 
 lines-shorter : (bytes : List ℕ) → length (lines bytes) ≤ length bytes
 lines-shorter [] = omega arith
@@ -59,5 +59,5 @@ fault_within bytes maker numbers f h w e =
     let text = lines bytes in
     let within = finish_within (said text) (said-few bytes h) (apart_lines text w.no_fault) in
     let same : finish_fault (drafted (said text)) ≡ Some f = ap finish_fault (sym w.draft) ∙ e in
-    let count : length (said text) ≡ length numbers = sym (length-saying 1 text) ∙ ap length (sym w.lines) in
+    let count : length (said text) ≡ length numbers = sym (length-line_numbers 1 text) ∙ ap length (sym w.lines) in
     subst (λ n. IsWithin n (Some f)) count (subst (IsWithin (length (said text))) same within)

@@ -7,9 +7,9 @@ use Rattle.circuits.specs.Limits.{AcceptsArity, takes}
 use Rattle.circuits.specs.declared.gate_word.GateWord.{GateWord}
 use Rattle.bench_reader.specs.declared.fault.BenchCause.{BenchCause}
 use Rattle.bench_reader.specs.declared.fault.BenchCause.TheVariants.{UnknownGate, BadArity, Sequential, NotAscii}
-use Rattle.bench_reader.specs.Faults.{first_cause, is_above_127}
+use Rattle.bench_reader.specs.Faults.{first_cause}
 use Rattle.bench_reader.specs.Forms.{Form, empty, input, output, gate, no_form, form_of}
-use Rattle.bench_reader.specs.Lines.{uncommented}
+use Rattle.texts.specs.Lines.{is_above_127, uncommented}
 use Rattle.bench_reader.specs.Statements.{Statement, says_input, says_output, says_gate, statement}
 use Rattle.bench_reader.specs.Steps.{own_form_fault, own_fault, IsSized}
 use Rattle.bench_reader.specs.Words.{gate_word}

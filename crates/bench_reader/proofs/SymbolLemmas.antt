@@ -1,13 +1,11 @@
 -- The first symbol of a text.
-use Rattle.std.proofs.Common.{◌≡◌, ℕ, suc, ◌+◌, ◌<◌, ◌==◌, Bool, true, false, not, ◌&&◌, ◌||◌, cond, nat_lt, nat_eq, codes, List, [], ◌∷◌, take, drop, filter, refl, sym, ap, subst, ◌∙◌, arith, slice_index, ⊎_elim, Result, Ok, Err, IsOk, MatchResult}
-use Rattle.std.specs.List.{list_any, position_or_len}
-use Rattle.std.proofs.Math.Numerals.{one-add}
-use Rattle.std.specs.Str.{IsAscii, IsUtf8}
-use Rattle.std.proofs.lemmas.Str.{IsUtf8-from_ascii}
-use Rattle.std.proofs.lemmas.Str.Ascii.{IsAscii-nil, IsAscii-cons}
-use Rattle.std.proofs.lemmas.Bool.{eqb-true, ltb-true, and_parts, or_cases, cases_Bool}
+use Rattle.std.proofs.Common.{◌≡◌, ℕ, suc, ◌==◌, Bool, true, false, not, ◌||◌, cond, List, [], ◌∷◌, take, drop, filter, refl, sym, ap, ◌∙◌, slice_index, ⊎_elim}
+use Rattle.std.proofs.lemmas.Bool.{eqb-true, or_cases, cases_Bool}
 use Rattle.circuits.specs.Names.{is_name_byte}
-use Rattle.bench_reader.specs.Symbols.{Symbol, name, opening, closing, comma, equals, blank, stray, is_white, sign, symbol_of, joined, with_blanks, is_no_blank, symbols}
+use Rattle.texts.specs.White.{is_white, white_len}
+use Rattle.texts.specs.Names.{name_len}
+use Rattle.texts.proofs.Places.{place_later, place_first}
+use Rattle.bench_reader.specs.Symbols.{Symbol, name, opening, closing, comma, equals, blank, stray, sign, symbol_of, joined, with_blanks, is_no_blank, symbols}
 
 white_is_blank : (b : ℕ) → is_white b ≡ true → symbol_of b ≡ blank
 white_is_blank b e = ⊎_elim
@@ -20,16 +18,6 @@ white_is_blank b e = ⊎_elim
 
 abbrev pub no_white : ℕ → Bool
 no_white b = not (is_white b)
-
-abbrev pub white_len : List ℕ → ℕ
-white_len text = position_or_len no_white text
-
--- the first place that passes is later by one, or the first
-place_later : (p : ℕ → Bool) (b : ℕ) (text : List ℕ) → p b ≡ false → position_or_len p (b ∷ text) ≡ suc (position_or_len p text)
-place_later p b text e = ap (λ v. cond (not v) (1 + position_or_len p text) 0) e ∙ one-add (position_or_len p text)
-
-place_first : (p : ℕ → Bool) (b : ℕ) (text : List ℕ) → p b ≡ true → position_or_len p (b ∷ text) ≡ 0
-place_first p b text e = ap (λ v. cond (not v) (1 + position_or_len p text) 0) e
 
 pub white_dropped : (text : List ℕ) → symbols (drop (white_len text) text) ≡ symbols text
 white_dropped [] = refl
@@ -97,9 +85,6 @@ apart t (b ∷ rest) e = rw e (apart_cond (b == 40) (b == 41) (b == 44) (b == 61
 abbrev pub no_name : ℕ → Bool
 no_name b = not (is_name_byte b)
 
-abbrev pub name_len : List ℕ → ℕ
-name_len text = position_or_len no_name text
-
 -- a byte of a name, in front of marks
 lettered : (b : ℕ) (more : List Symbol) → is_name_byte b ≡ true → joined (symbol_of b) more ≡ joined (name (b ∷ [])) more
 lettered b more e = ap (λ v. joined (cond v (name (b ∷ [])) (sign b)) more) e
@@ -118,21 +103,3 @@ name_marked b (c ∷ text) = ⊎_elim
 pub name_first : (text : List ℕ) → is_name_byte (slice_index text 0) ≡ true → symbols text ≡ name (take (name_len text) text) ∷ symbols (drop (name_len text) text)
 name_first [] e = absurd (cc)
 name_first (b ∷ text) e = ap (filter is_no_blank) (lettered b (with_blanks text) e ∙ name_marked b text ∙ sym (ap (λ n. cut n (b ∷ text)) (place_later no_name b text (ap not e))))
-
--- what is of names is below 128
-below_127 : (b : ℕ) → is_name_byte b ≡ true → b < 128
-below_127 b e = omega (arith, ltb-true b 127 (and_parts (nat_lt 32 b) (nat_lt b 127) (and_parts (nat_lt 32 b && nat_lt b 127) (not (list_any (nat_eq b) (codes "(),=#"))) e).0).1)
-
-pub names_are_ascii : (text : List ℕ) → IsAscii (take (name_len text) text)
-names_are_ascii [] = IsAscii-nil
-names_are_ascii (b ∷ text) = ⊎_elim
-    (λ e. subst (λ n. IsAscii (take n (b ∷ text))) (sym (place_later no_name b text (ap not e))) (IsAscii-cons b (take (name_len text) text) (below_127 b e) (names_are_ascii text)))
-    (λ e. subst (λ n. IsAscii (take n (b ∷ text))) (sym (place_first no_name b text (ap not e))) IsAscii-nil)
-    (cases_Bool (is_name_byte b))
-
-pub names_are_utf8 : (text : List ℕ) → IsUtf8 (take (name_len text) text)
-names_are_utf8 text = IsUtf8-from_ascii (take (name_len text) text) (names_are_ascii text)
-
-pub ok_since : {A E : Type 0} (r : Result A E) (P : A → Type 0) (Q : E → Type 0) → MatchResult r P Q → ((e : E) → Q e → ⊥) → IsOk r
-ok_since (Ok x) P Q m h = refl
-ok_since (Err e) P Q m h = absurd (h e m)

@@ -10,7 +10,7 @@ use Rattle.bench_reader.specs.declared.fault.BenchCause.{BenchCause}
 use Rattle.bench_reader.specs.declared.fault.BenchCause.TheVariants.{BadLine, UnknownGate, BadArity, DuplicateNet, Sequential, TooLarge, NotAscii}
 use Rattle.bench_reader.specs.declared.fault.BenchFault.{BenchFault}
 use Rattle.bench_reader.specs.Forms.{Form, input, output, gate, no_form, form_of}
-use Rattle.bench_reader.specs.Lines.{uncommented}
+use Rattle.texts.specs.Lines.{is_above_127, uncommented}
 use Rattle.bench_reader.specs.Statements.{Statement, says_input, says_gate, input_name, gate_name, nets}
 use Rattle.bench_reader.specs.Words.{gate_word}
 
@@ -46,9 +46,6 @@ is_duplicate earlier (input net) = is_defined earlier net
 is_duplicate earlier (gate net word inputs) = is_defined earlier net
 is_duplicate earlier _ = false
 
-abbrev pub is_above_127 : ℕ → Bool
-is_above_127 b = nat_lt 127 b
-
 abbrev pub fault : ℕ → BenchCause → BenchFault
 fault line cause = record { line = line; cause = cause }
 
@@ -56,16 +53,19 @@ fault line cause = record { line = line; cause = cause }
 abbrev pub first_cause : List (Bool × BenchCause) → Option BenchCause
 first_cause tests = option_map (λ t. t.1) (find (λ t. t.0) tests)
 
--- what is wrong with a line of this form, after what earlier lines say
-abbrev pub form_fault : List Statement → Form → Option BenchCause
-form_fault earlier form = first_cause
-    ((has_no_form form, BadLine)
+-- what may be wrong with a line of this form, after what earlier lines say, in the order in which it is sought
+abbrev pub form_tests : List Statement → Form → List (Bool × BenchCause)
+form_tests earlier form =
+    (has_no_form form, BadLine)
     ∷ (is_sequential form, Sequential)
     ∷ (has_unknown_word form, UnknownGate)
     ∷ (has_bad_arity form, BadArity)
     ∷ (is_too_large earlier form, TooLarge)
     ∷ (is_duplicate earlier form, DuplicateNet)
-    ∷ [])
+    ∷ []
+
+abbrev pub form_fault : List Statement → Form → Option BenchCause
+form_fault earlier form = first_cause (form_tests earlier form)
 
 -- what is wrong with a line, after what earlier lines say
 abbrev pub line_fault : List Statement → List ℕ → Option BenchCause

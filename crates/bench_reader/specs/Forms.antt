@@ -3,7 +3,7 @@ use Rattle.std.specs.Prelude.{◌≡◌, ℕ, List, [], ◌∷◌, Option, Some,
 use Rattle.std.specs.Char.{is_ascii_alphabetic}
 use Rattle.std.specs.List.{list_all}
 use Rattle.std.specs.Str.{str_eq_ignore_ascii_case}
-use Rattle.bench_reader.specs.Lines.{uncommented}
+use Rattle.texts.specs.Lines.{uncommented}
 use Rattle.bench_reader.specs.Symbols.{Symbol, name, opening, closing, comma, equals, symbols}
 
 -- An input and an output have a name; a gate has the name of its net, its word and the names of its inputs.

@@ -1,23 +1,19 @@
 -- Which line a later fault is on, where no line has a fault by itself.
-use Rattle.std.specs.Prelude.{◌≡◌, ℕ, ◌+◌, ◌-◌, Bool, true, false, not, List, [], ◌∷◌, position, slice_index, Option, option_map, is_some, codes, if◌then◌else◌, refl}
-use Rattle.std.specs.List.{list_any}
+use Rattle.std.specs.Prelude.{◌≡◌, ℕ, Bool, true, false, not, List, [], ◌∷◌, find, filter_map, Option, Some, option_map, codes, refl}
+use Rattle.std.specs.List.{list_any, enumerate_from}
 use Rattle.std.specs.Option.{option_or}
 use Rattle.circuits.specs.Circuit.{Circuit}
 use Rattle.circuits.specs.Cone.{reaches_itself}
+use Rattle.circuits.specs.declared.gate_word.GateWord.TheVariants.{Not}
 use Rattle.bench_reader.specs.declared.fault.BenchCause.{BenchCause}
 use Rattle.bench_reader.specs.declared.fault.BenchCause.TheVariants.{UndefinedNet, Cycle}
 use Rattle.bench_reader.specs.declared.fault.BenchFault.{BenchFault}
 use Rattle.bench_reader.specs.Faults.{is_defined, fault}
 use Rattle.bench_reader.specs.Statements.{Statement, says_input, says_output, says_gate, said_by, said, nets, number, circuit}
 
--- the numbers of the lines that say something, where the first line has the number n
-abbrev pub saying : ℕ → List (List ℕ) → List ℕ
-saying n [] = []
-saying n (line ∷ more) = if is_some (said_by line) then n ∷ saying (n + 1) more else saying (n + 1) more
-
--- the line of the statement with this number, from 1 on
-abbrev pub line_of : List (List ℕ) → ℕ → ℕ
-line_of text at = slice_index (saying 1 text) (at - 1)
+-- what the lines say, each with the number of its line, where the first line has the number n
+abbrev pub said_at : ℕ → List (List ℕ) → List (ℕ × Statement)
+said_at n text = filter_map (λ (line, bytes). option_map (λ s. (line, s)) (said_by bytes)) (enumerate_from n text)
 
 -- names a net that is not defined
 abbrev pub names_undefined : List Statement → Statement → Bool
@@ -32,16 +28,22 @@ is_on_cycle all (says_gate net word inputs) = reaches_itself (circuit all) (numb
 
 -- the first statement that passes a test, at its line
 abbrev pub first_where : (Statement → Bool) → BenchCause → List (List ℕ) → Option BenchFault
-first_where test cause text = option_map (λ k. fault (line_of text (k + 1)) cause) (position test (said text))
+first_where test cause text = option_map (λ (line, s). fault line cause) (find (λ (line, s). test s) (said_at 1 text))
 
 -- where no line has a fault by itself: a net that no line defines, and then a net that reaches itself
 abbrev pub later_fault : List (List ℕ) → Option BenchFault
 later_fault text =
     option_or (first_where (names_undefined (said text)) UndefinedNet text) (first_where (is_on_cycle (said text)) Cycle text)
 
--- the statements of a text with an empty line and a comment
-statement_lines : saying 1 (codes "INPUT(a)" ∷ [] ∷ codes "z = NOT(a)" ∷ codes "# out" ∷ codes "OUTPUT(z)" ∷ []) ≡ 1 ∷ 3 ∷ 5 ∷ []
+-- an empty line and a comment count
+statement_lines : said_at 1 (codes "INPUT(a)" ∷ [] ∷ codes "z = NOT(a)" ∷ codes "# out" ∷ codes "OUTPUT(z)" ∷ [])
+    ≡ (1, says_input (codes "a")) ∷ (3, says_gate (codes "z") Not (codes "a" ∷ [])) ∷ (5, says_output (codes "z")) ∷ []
 statement_lines = refl
 
-second_statement : line_of (codes "INPUT(a)" ∷ [] ∷ codes "z = NOT(a)" ∷ []) 2 ≡ 3
-second_statement = refl
+-- of two lines that name an undefined net the first
+undefined_first : later_fault (codes "INPUT(a)" ∷ [] ∷ codes "z = NOT(b)" ∷ codes "OUTPUT(c)" ∷ []) ≡ Some (fault 3 UndefinedNet)
+undefined_first = refl
+
+-- an undefined net is found before a cycle on an earlier line
+undefined_before_cycle : later_fault (codes "x = NOT(x)" ∷ codes "OUTPUT(c)" ∷ []) ≡ Some (fault 2 UndefinedNet)
+undefined_before_cycle = refl

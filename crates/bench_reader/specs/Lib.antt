@@ -2,7 +2,6 @@ pub mod Faults
 pub mod Forms
 pub mod Gathered
 pub mod Later
-pub mod Lines
 pub mod Reading
 pub mod Statements
 pub mod Steps

@@ -10,7 +10,7 @@ use Rattle.bench_reader.specs.declared.fault.BenchError.TheVariants.{Fault, Memo
 use Rattle.bench_reader.specs.declared.fault.BenchFault.{BenchFault}
 use Rattle.bench_reader.specs.Faults.{fault, line_fault}
 use Rattle.bench_reader.specs.Later.{later_fault}
-use Rattle.bench_reader.specs.Lines.{lines}
+use Rattle.texts.specs.Lines.{lines}
 use Rattle.bench_reader.specs.Statements.{Statement, said_by, said, circuit}
 
 -- the first fault of a line: of the lines from line n on, after what earlier lines say

@@ -1,6 +1,7 @@
 -- The symbols of a line: names, and the four signs ( ) , =
-use Rattle.std.specs.Prelude.{◌≡◌, ℕ, ◌==◌, Bool, true, false, ◌||◌, List, [], ◌∷◌, ◌++◌, codes, filter, if◌then◌else◌, refl}
+use Rattle.std.specs.Prelude.{◌≡◌, ℕ, ◌==◌, Bool, true, false, List, [], ◌∷◌, ◌++◌, codes, filter, if◌then◌else◌, refl}
 use Rattle.circuits.specs.Names.{is_name_byte}
+use Rattle.texts.specs.White.{is_white}
 
 -- a stray byte belongs to no symbol and is no white space
 pub data Symbol : Type 0 where
@@ -11,10 +12,6 @@ pub data Symbol : Type 0 where
   equals : Symbol
   blank : Symbol
   stray : Symbol
-
--- a space, a tab or CR
-abbrev pub is_white : ℕ → Bool
-is_white b = b == 32 || b == 9 || b == 13
 
 -- the sign that the byte is
 abbrev pub sign : ℕ → Symbol

@@ -1,7 +1,5 @@
--- What the reader's own types stand for.
-use Rattle.std.specs.Prelude.{ℕ, List, map, Vec}
-use Rattle.std.specs.declared.alloc.Global.{Global}
-use denote.Ref.{Bor}
+-- For proofs alone: what the reader's own types stand for.
+use Rattle.std.specs.Prelude.{ℕ, List, Option, Some, None}
 use Rattle.bench_reader.specs.Forms as forms
 use Rattle.bench_reader.specs.Statements as statements
 use Rattle.bench_reader.specs.Symbols as symbols
@@ -20,17 +18,19 @@ seen_symbol Comma = symbols.comma
 seen_symbol Equals = symbols.equals
 seen_symbol Stray = symbols.stray
 
-abbrev pub seen_names : Vec (Bor (List ℕ)) Global → List (List ℕ)
-seen_names names = map (λ name. name.now) names.items
+-- what a name says; nothing for a sign
+abbrev pub name_text : symbols.Symbol → Option (List ℕ)
+name_text (symbols.name text) = Some text
+name_text _ = None
 
 abbrev pub seen_form : Form → forms.Form
 seen_form Empty = forms.empty
 seen_form (Input net) = forms.input net.now
 seen_form (Output net) = forms.output net.now
-seen_form (Gate net word inputs) = forms.gate net.now word.now (seen_names inputs)
+seen_form (Gate net word inputs) = forms.gate net.now word.now inputs
 seen_form NoForm = forms.no_form
 
 abbrev pub seen_statement : Statement → statements.Statement
 seen_statement (AddsInput net) = statements.says_input net.now
 seen_statement (AddsOutput net) = statements.says_output net.now
-seen_statement (AddsGate net word inputs) = statements.says_gate net.now word (seen_names inputs)
+seen_statement (AddsGate net word inputs) = statements.says_gate net.now word inputs

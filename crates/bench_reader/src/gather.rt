@@ -1,41 +1,46 @@
 ghost use Rattle.std.specs.Prelude.{◌≡◌, ◌≤◌, ◌++◌, length, None, IfOk, OnOk, IfErr, option_map};
 ghost use Rattle.bench_reader.specs.Gathered.{Gathers, IsAtLine, number_more};
-ghost use Rattle.bench_reader.specs.Lines.{lines};
-ghost use Rattle.bench_reader.specs.Steps.{Adds, IsSized, Refuses, cause_of, said_fault, with_statement, line_fault_after};
+ghost use Rattle.bench_reader.specs.Steps.{Adds, IsSized, HasCause, RefusesLine, cause_of, statement_fault, with_statement};
 ghost use Rattle.bench_reader.specs.Views.{seen_statement};
+ghost use Rattle.texts.specs.Lines.{lines};
+ghost use Rattle.texts.specs.declared.limits.TheConstants.{MOST_BYTES};
 
-use crate::fault::{BenchError, BenchFault, bench_cause};
-use crate::statement::{LineError, Statement, statement_of};
-use crate::text::split_line;
-use netlist::{NetError, NetlistMaker};
+use crate::fault::{BenchError, BenchFault};
+use crate::line_error::LineError;
+use crate::statement::{Statement, statement_of};
+use netlist::NetlistMaker;
 use std::alloc::{AllocError, Global};
+use texts::split_line;
 
-fn add(maker: &mut NetlistMaker, statement: &Statement<'_>) -> Result<(), LineError>
+fn add(alloc: Global, maker: &mut NetlistMaker, statement: &Statement<'_>) -> Result<(), LineError>
     requires { IsSized (seen_statement statement.now) }
-    ensures no_fault { OnOk result (said_fault maker.old (seen_statement statement.now) ≡ None) }
-    ensures added { OnOk result (maker.new ≡ with_statement maker.old (seen_statement statement.now)) }
-    ensures fault { IfErr result (λ e. Refuses e (option_map (λ f. cause_of f.cause) (said_fault maker.old (seen_statement statement.now)))) }
+    ensures no_fault { OnOk result
+        (statement_fault maker.old (seen_statement statement.now) ≡ None) }
+    ensures added { OnOk result
+        (maker.new ≡ with_statement maker.old (seen_statement statement.now)) }
+    ensures fault { IfErr result (λ e. HasCause e
+        (option_map (λ f. cause_of f.cause)
+        (statement_fault maker.old (seen_statement statement.now)))) }
 {
-    let added = match statement {
-        Statement::AddsInput(net) => maker.add_input(net),
-        Statement::AddsOutput(net) => maker.add_output(net),
-        Statement::AddsGate(net, word, inputs) => maker.add_gate(net, *word, inputs),
-    };
-    match added {
-        Ok(()) => Ok(()),
-        Err(NetError::Fault(fault)) => Err(LineError::Fault(bench_cause(fault.cause))),
-        Err(NetError::Memory) => Err(LineError::Memory),
+    match statement {
+        Statement::AddsInput(net) => maker.add_input(net)?,
+        Statement::AddsOutput(net) => maker.add_output(net)?,
+        Statement::AddsGate(net, word, inputs) => {
+            let inputs = inputs.names(alloc)?;
+            maker.add_gate(net, *word, &inputs)?
+        }
     }
+    Ok(())
 }
 
 /// Adds what a line says, and tells whether it says anything.
 fn add_line(alloc: Global, maker: &mut NetlistMaker, line: &[u8]) -> Result<bool, LineError>
     ensures added { IfOk result (λ says. Adds maker.old maker.new line.now says) }
-    ensures fault { IfErr result (λ e. Refuses e (line_fault_after maker.old line.now)) }
+    ensures fault { IfErr result (λ e. RefusesLine e maker.old line.now) }
 {
-    match statement_of(alloc, line)? {
+    match statement_of(line)? {
         Some(statement) => {
-            add(maker, &statement)?;
+            add(alloc, maker, &statement)?;
             Ok(true)
         }
         None => Ok(false),
@@ -71,7 +76,7 @@ pub(crate) struct Gathered {
 
 /// Adds what the lines of a text say, up to the first line with a fault.
 pub(crate) fn gather(alloc: Global, bytes: &[u8]) -> Result<Gathered, BenchError>
-    requires { length bytes.now ≤ 1048576 }
+    requires { length bytes.now ≤ MOST_BYTES }
     ensures { Gathers result (lines bytes.now) }
 {
     let mut maker = NetlistMaker::new(alloc);

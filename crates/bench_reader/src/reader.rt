@@ -1,5 +1,6 @@
 ghost use Rattle.std.specs.Prelude.{◌≡◌, ◌≤◌, length, IfOk, IfErr, Ok};
 ghost use Rattle.bench_reader.specs.Reading.{IsFaultOf, reading};
+ghost use Rattle.texts.specs.declared.limits.TheConstants.{MOST_BYTES};
 
 use crate::fault::{BenchError, BenchFault, bench_cause};
 use crate::gather::{Gathered, gather};
@@ -9,7 +10,7 @@ use std::alloc::Global;
 /// The netlist that the bytes say, or their first fault. Its inputs are those of the INPUT lines, its
 /// gates those of the gate lines and its outputs those of the OUTPUT lines, in order.
 pub fn read(alloc: Global, bytes: &[u8]) -> Result<Netlist, BenchError>
-    requires { length bytes.now ≤ 1048576 }
+    requires { length bytes.now ≤ MOST_BYTES }
     ensures netlist { IfOk result (λ netlist. reading bytes.now ≡ Ok netlist) }
     ensures fault { IfErr result (λ error. IsFaultOf error (reading bytes.now)) }
 {

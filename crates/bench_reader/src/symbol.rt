@@ -1,9 +1,10 @@
-ghost use Rattle.std.specs.Prelude.{◌≡◌, ◌<◌, ◌≤◌, ◌∷◌, [], length, false, true, slice_index, IfSome, MatchOption};
-ghost use Rattle.bench_reader.specs.Symbols.{is_white, name, sign, symbols};
+ghost use Rattle.std.specs.Prelude.{◌≡◌, ◌<◌, ◌≤◌, ◌∷◌, [], length, false, true, slice_index, IfSome, MatchOption, option_map};
+ghost use Rattle.bench_reader.specs.Symbols.{name, sign, symbols};
 ghost use Rattle.circuits.specs.Names.{is_name_byte};
-ghost use Rattle.bench_reader.specs.Views.{seen_symbol};
+ghost use Rattle.bench_reader.specs.Views.{name_text, seen_symbol};
+ghost use Rattle.texts.specs.White.{is_white};
 
-use crate::text::{is_of_name, name_len, white_len};
+use texts::{behind_white, is_name_byte, split_name};
 
 /// A name or a sign of a line. A stray byte is none of them and no white space.
 #[derive(Clone, Copy)]
@@ -16,23 +17,33 @@ pub(crate) enum Symbol<'a> {
     Stray,
 }
 
+impl<'a> Symbol<'a> {
+    /// The text of a name.
+    pub(crate) fn text(self) -> Option<&'a str>
+        ensures { option_map (λ text. text.now) result ≡ name_text (seen_symbol self.entry) }
+    {
+        match self {
+            Symbol::Name(text) => Some(text),
+            _ => None,
+        }
+    }
+}
+
 fn skip_white(text: &[u8]) -> &[u8]
     ensures same { symbols result.now ≡ symbols text.now }
     ensures first { is_white (slice_index result.now 0) ≡ false }
     ensures no_longer { length result.now ≤ length text.now }
 {
-    let (_, rest) = text.split_at(white_len(text));
-    rest
+    behind_white(text)
 }
 
 /// The name at the front, as long as it can be, and the text after it.
-fn split_name(text: &[u8]) -> (&str, &[u8])
+fn first_name(text: &[u8]) -> (&str, &[u8])
     requires { is_name_byte (slice_index text.now 0) ≡ true }
     ensures symbol { symbols text.now ≡ name result.0.now ∷ symbols result.1.now }
     ensures shorter { length result.1.now < length text.now }
 {
-    let (front, rest) = text.split_at(name_len(text));
-    (str::from_utf8(front).unwrap(), rest)
+    split_name(text)
 }
 
 fn sign_of<'a>(byte: u8) -> Symbol<'a>
@@ -50,7 +61,8 @@ fn sign_of<'a>(byte: u8) -> Symbol<'a>
 
 /// The first symbol, and the text after it.
 pub(crate) fn next_symbol(text: &[u8]) -> Option<(Symbol<'_>, &[u8])>
-    ensures symbol { MatchOption result (symbols text.now ≡ []) (λ found. symbols text.now ≡ seen_symbol found.0 ∷ symbols found.1.now) }
+    ensures symbol { MatchOption result (symbols text.now ≡ [])
+        (λ found. symbols text.now ≡ seen_symbol found.0 ∷ symbols found.1.now) }
     ensures shorter { IfSome result (λ found. length found.1.now < length text.now) }
 {
     let text = skip_white(text);
@@ -58,8 +70,8 @@ pub(crate) fn next_symbol(text: &[u8]) -> Option<(Symbol<'_>, &[u8])>
         return None;
     }
     let first = text[0];
-    if is_of_name(first) {
-        let (name, rest) = split_name(text);
+    if is_name_byte(first) {
+        let (name, rest) = first_name(text);
         return Some((Symbol::Name(name), rest));
     }
     Some((sign_of(first), &text[1..]))

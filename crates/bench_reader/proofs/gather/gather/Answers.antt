@@ -1,7 +1,7 @@
 use Rattle.std.proofs.Common.{◌+◌, ◌∙◌, length, arith, subst, sym}
 use Rattle.std.proofs.lemmas.Bool.{eqb-true}
 use Rattle.std.proofs.lemmas.List.{nil_from_length}
-use Rattle.bench_reader.specs.Lines.{lines}
+use Rattle.texts.specs.Lines.{lines}
 use Rattle.bench_reader.proofs.Gathering.{IsGathered, goes_on, refused, ends}
 use Rattle.bench_reader.proofs.gather.gather.Goals as goal
 

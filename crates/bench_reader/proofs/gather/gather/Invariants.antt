@@ -1,5 +1,5 @@
 use Rattle.std.proofs.Common.{◌+◌, ◌≤◌, length}
-use Rattle.bench_reader.specs.Lines.{lines}
+use Rattle.texts.specs.Lines.{lines}
 use Rattle.bench_reader.proofs.Gathering.{IsGathered}
 use Rattle.bench_reader.proofs.gather.gather.Given as goal
 
