@@ -1,5 +1,5 @@
 -- The inputs of a gate are all names of their text.
-use Rattle.std.proofs.Common.{◌≡◌, ℕ, List, [], ◌∷◌, length, filter_map, unwrap_or, Option, Some, None, option_map, refl, sym, ap, ◌∙◌}
+use Rattle.std.proofs.Common.{◌≡◌, ℕ, List, [], ◌∷◌, length, filter_map, unwrap_or, Option, Some, None, option_map, refl, ap, ◌∙◌}
 use Rattle.bench_reader.specs.Forms.{names, names_or_none}
 use Rattle.bench_reader.specs.Symbols.{Symbol, name, closing, comma}
 use Rattle.bench_reader.specs.Views.{name_text}

@@ -1,6 +1,6 @@
 -- For proofs alone: a line's fault in two parts, what is wrong with the line by itself, and with what it says after
 -- others.
-use Rattle.std.specs.Prelude.{◌≡◌, ℕ, Bool, List, [], ◌∷◌, Option, Some, None, Result, Ok, Err, option_map, is_some, length, fold, take, if◌then◌else◌}
+use Rattle.std.specs.Prelude.{◌≡◌, ℕ, Bool, List, [], Option, Some, None, Result, Ok, Err, option_map, is_some, length, fold, take, if◌then◌else◌}
 use Rattle.std.specs.List.{list_any}
 use Rattle.std.specs.Option.{option_or}
 use Rattle.circuits.specs.Limits.{AcceptsArity}

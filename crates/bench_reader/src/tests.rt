@@ -171,6 +171,9 @@ fn an_error_is_printed(rt: HostRuntime) -> Result<(), Fail> {
         line: 1_048_577,
         cause: BenchCause::Sequential,
     });
-    assert_eq!(rt; format!(in rt.alloc(); "{error}")?.as_str(), "1048577 sequential");
+    assert_eq!(rt;
+        format!(in rt.alloc(); "{error}")?.as_str(),
+        "1048577 sequential"
+    );
     Ok(())
 }

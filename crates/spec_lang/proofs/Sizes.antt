@@ -1,6 +1,6 @@
 -- The depth of a formula is at most its size.
 use Rattle.std.proofs.Common.{ℕ, ◌+◌, ◌≤◌, arith, max}
-use Rattle.spec_lang.specs.Formula.{Formula, number, word, negative, sum, difference, product}
+use Rattle.spec_lang.specs.Formula.{number, word, negative, sum, difference, product}
 use Rattle.spec_lang.specs.Size.{size, depth, DepthIsAtMostSize}
 
 of_two : (c d m n : ℕ) → c ≤ m → d ≤ n → max c d + 1 ≤ m + n + 1

@@ -92,9 +92,10 @@ pub(crate) fn values_of(
 ) -> Result<(Weight, Weight), Overflow>
     ensures { OkIff result
         (IsTrue (all_in_range words.now values.now (formula_of left.now)
-        && all_in_range words.now values.now (formula_of right.now)))
-        (value words.now values.now (formula_of left.now),
-        value words.now values.now (formula_of right.now)) }
+        && all_in_range words.now values.now (formula_of right.now))) (
+          value words.now values.now (formula_of left.now),
+          value words.now values.now (formula_of right.now),
+        ) }
 {
     let left = value_of(left, words, values)?;
     let right = value_of(right, words, values)?;
