@@ -3,13 +3,14 @@ ghost use Rattle.std.specs.List.{list_all};
 ghost use Rattle.first_form.specs.Names.{is_first_byte, is_later_byte, is_identifier, is_keyword, is_net_name, is_word_name};
 
 use crate::text::is;
+use circuits::LONGEST_NAME;
 use texts::as_name;
 
 /// Whether a net may have this name.
 pub(crate) fn is_net_name(name: &[u8]) -> bool
     ensures { result ≡ is_net_name name.now }
 {
-    !name.is_empty() && name.len() <= 64 && as_name(name).is_some()
+    !name.is_empty() && name.len() <= LONGEST_NAME && as_name(name).is_some()
 }
 
 fn is_first_byte(byte: u8) -> bool
@@ -55,5 +56,5 @@ fn is_keyword(name: &[u8]) -> bool
 pub(crate) fn is_word_name(name: &[u8]) -> bool
     ensures { result ≡ is_word_name name.now }
 {
-    is_identifier(name) && name.len() <= 64 && !is_keyword(name)
+    is_identifier(name) && name.len() <= LONGEST_NAME && !is_keyword(name)
 }
