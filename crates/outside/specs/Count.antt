@@ -1,14 +1,14 @@
--- Counts of faults, and the cause of a failure.
-use Rattle.std.specs.Prelude.{◌≡◌, ℕ, ◌+◌, ◌-◌, ◌^◌, ◌≤◌, min, Bool, true, false, if◌then◌else◌, refl}
+-- Counts of fetches and of faults.
+use Rattle.std.specs.Prelude.{◌≡◌, ℕ, ◌+◌, ◌-◌, ◌^◌, ◌≤◌, min, max, Bool, true, false, if◌then◌else◌, refl}
 use Rattle.std.proofs.Common.{lit≤}
 
 -- the greatest count. One that has reached it stays there
 abbrev pub last_count : ℕ
 last_count = 2 ^ 64 - 1
 
--- a count, and one more
+-- a count, and one more, up to the greatest
 abbrev pub raised : ℕ → ℕ
-raised count = min (count + 1) last_count
+raised count = max count (min (count + 1) last_count)
 
 raised-three : raised 3 ≡ 4
 raised-three = refl
@@ -26,7 +26,7 @@ counted-fault = refl
 counted-none : counted false 3 ≡ 3
 counted-none = refl
 
--- the count rose, or stands at its last value
+-- the count rose in a call, or stands at its last value
 abbrev pub Rose : ℕ → ℕ → Type 0
 Rose before now = raised before ≤ now
 
@@ -36,8 +36,3 @@ rose-to_four = lit≤ tt
 -- it stands at its last value
 rose-last : Rose last_count last_count
 rose-last = lit≤ tt
-
--- A call that may meet a fault: the count never falls, and the call fails only where it rose.
-pub record HasCause (rose : ℕ → ℕ → Type 0) (before now : ℕ) (fails : Type 0) : Type 0 where
-  pub later : before ≤ now
-  pub failed : fails → rose before now

@@ -1,4 +1,5 @@
 pub mod Count
+pub mod FileShelf
 pub mod MemoryShelf
 pub mod MemorySink
 pub mod Shelf

@@ -1,8 +1,8 @@
 -- What a fetch gives. A shelf's files are the bytes of each name, where there are any, or `None` where the shelf does not tell.
-use Rattle.std.specs.Prelude.{◌≡◌, ℕ, ◌≤◌, ◌<◌, ◌⊎◌, Bool, true, false, List, ◌++◌, length, Option, Some, None, Result, Ok, Err, codes, unwrap_or, refl}
+use Rattle.std.specs.Prelude.{◌≡◌, ℕ, ◌≤◌, ◌<◌, ◌⊎◌, Bool, true, false, List, ◌++◌, length, Option, Some, None, Result, Ok, Err, codes, refl}
 use Rattle.std.specs.Option.{option_map}
-use Rattle.std.proofs.Common.{ap, sym, lit≤}
-use Rattle.outside.specs.Count.{Rose}
+use Rattle.std.proofs.Common.{lit<, lit≤, inl, inr}
+use Rattle.outside.specs.Count.{raised, Rose}
 use Rattle.outside.specs.declared.shelf.FetchError.{FetchError}
 use Rattle.outside.specs.declared.shelf.FetchError.TheVariants.{Failed, TooLong, Memory}
 
@@ -29,29 +29,36 @@ lacks-empty = refl
 abbrev pub ShelfRose : Option (List ℕ → Option (List ℕ)) → List ℕ → ℕ → ℕ → Type 0
 ShelfRose files name before now = Rose before now ⊎ Lacks files name
 
--- A whole file was appended, of at most `limit` bytes: the one that was told.
+-- These bytes are the whole file, where it is told. One that is told to be absent has none.
+abbrev pub IsWhole : Option (Option (List ℕ)) → List ℕ → Type 0
+IsWhole None bytes = Unit {0}
+IsWhole (Some None) bytes = ⊥
+IsWhole (Some (Some file)) bytes = bytes ≡ file
+
+-- A whole file was appended, of at most `limit` bytes.
 pub record AppendsFile (of_name : Option (Option (List ℕ))) (limit : ℕ) (old new : List ℕ) : Type 0 where
   pub bytes : List ℕ
-  pub appended : new ≡ old ++ bytes
+  pub whole : IsWhole of_name bytes
   pub within : length bytes ≤ limit
-  pub whole : (file : Option (List ℕ)) → of_name ≡ Some file → file ≡ Some bytes
+  pub appended : new ≡ old ++ bytes
 
 -- the file "ab" was appended to "x"
 appends-ab : AppendsFile (Some (Some (codes "ab"))) 2 (codes "x") (codes "xab")
 appends-ab = record {
   bytes = codes "ab";
-  appended = refl;
+  whole = refl;
   within = lit≤ tt;
-  whole = λ file same. ap (λ known. unwrap_or known None) (sym same);
+  appended = refl;
 }
 
--- a file that was told is there, and has more than `limit` bytes
+-- The file has more than `limit` bytes, where it is told. One that is told to be absent is not longer.
 abbrev pub IsLonger : Option (Option (List ℕ)) → ℕ → Type 0
-IsLonger of_name limit = (file : Option (List ℕ)) → of_name ≡ Some file →
-    (bytes : List ℕ) × (file ≡ Some bytes) × (limit < length bytes)
+IsLonger None limit = Unit {0}
+IsLonger (Some None) limit = ⊥
+IsLonger (Some (Some file)) limit = limit < length file
 
 longer-ab : IsLonger (Some (Some (codes "ab"))) 1
-longer-ab = λ file same. (codes "ab", ap (λ known. unwrap_or known None) (sym same), lit≤ tt)
+longer-ab = lit< tt
 
 -- what a reader of a file tells of it: the bytes that it has left
 abbrev pub file_left : Option (List ℕ) → Option (Option (List ℕ))
@@ -72,3 +79,20 @@ is_failed-failed = refl
 
 is_failed-too_long : is_failed {T = ℕ} (Err TooLong) ≡ false
 is_failed-too_long = refl
+
+-- How the count of faults changes in a fetch. It rises by one at `Failed`, where a name that is told to be absent need be no
+-- fault, and it stays at each other answer.
+abbrev pub CountsFault : {T : Type 0} → Type 0 → ℕ → ℕ → Result T FetchError → Type 0
+CountsFault absent before now (Ok _) = now ≡ before
+CountsFault absent before now (Err Failed) = (now ≡ raised before) ⊎ (absent × (now ≡ before))
+CountsFault absent before now (Err TooLong) = now ≡ before
+CountsFault absent before now (Err Memory) = now ≡ before
+
+counts-fault : CountsFault {T = ℕ} ⊥ 3 4 (Err Failed)
+counts-fault = inl refl
+
+counts-absent : CountsFault {T = ℕ} (Unit {0}) 3 3 (Err Failed)
+counts-absent = inr (tt, refl)
+
+counts-too_long : CountsFault {T = ℕ} ⊥ 3 3 (Err TooLong)
+counts-too_long = refl

@@ -1,6 +1,6 @@
 ghost use Rattle.std.specs.Prelude.{◌≡◌, ℕ, List, ◌++◌, None, OnOk, OnErr, IsErrOf};
-ghost use Rattle.outside.specs.Count.{HasCause, counted};
-ghost use Rattle.outside.specs.Shelf.{ShelfRose, AppendsFile, IsLonger, file_left, is_failed};
+ghost use Rattle.outside.specs.FileShelf.{Counts, after_fetch};
+ghost use Rattle.outside.specs.Shelf.{AppendsFile, IsLonger, file_left, is_failed};
 
 use crate::{FetchError, Shelf};
 use std::fs;
@@ -12,39 +12,46 @@ use std::rt::Files;
 #[derive(Drop)]
 pub struct FileShelf<R> {
     system: R,
+    fetches: u64,
     faults: u64,
 }
 
 impl<R> Model for FileShelf<R> {
-    ghost use Rattle.std.specs.Prelude.{ℕ};
+    ghost use Rattle.outside.specs.FileShelf.{Counts};
 
-    ghost Value = { ℕ };
+    ghost Value = { Counts };
 
-    ghost view = { λ s. s.faults };
+    ghost view = { λ s. record { fetches = s.fetches; faults = s.faults } };
 }
 
 impl<R: Files> FileShelf<R> {
     /// A shelf that has met no fault.
     pub fn new(system: R) -> FileShelf<R>
-        ensures { result ≡ 0 }
+        ensures { result ≡ record { fetches = 0; faults = 0 } }
     {
-        FileShelf { system, faults: 0 }
+        FileShelf {
+            system,
+            fetches: 0,
+            faults: 0,
+        }
     }
 }
 
 impl<R: Files> Shelf for FileShelf<R> {
     ghost files = { λ _. None };
 
-    ghost faults = { λ s. s };
+    ghost fetches = { λ s. s.fetches };
+
+    ghost faults = { λ s. s.faults };
 
     fn fetch(&mut self, name: &str, limit: usize, into: &mut Vec<u8>) -> Result<(), FetchError>
         ensures ok { OnOk result (AppendsFile None limit into.old.items into.new.items) }
         ensures err { OnErr result (into.new.items ≡ into.old.items) }
-        ensures cause { HasCause (ShelfRose None name.now) self.old self.new (IsErrOf result FetchError.Failed) }
 
-        // The count rises exactly where it answers `Failed`.
-        ensures after { self.new ≡ counted (is_failed result) self.old }
+        // It counts a fault exactly where it answers `Failed`.
+        ensures after { self.new ≡ after_fetch (is_failed result) self.old }
     {
+        self.fetches = self.fetches.saturating_add(1);
         let start = into.len();
         let fetched = match fs::open(&self.system, name) {
             Ok(mut file) => read_whole(&mut file, limit, into),

@@ -2,8 +2,8 @@ ghost use Rattle.std.specs.Prelude.{◌≡◌, ◌≤◌, ◌↔◌, ◌&&◌, �
 ghost use Rattle.std.specs.Option.{option_copied};
 ghost use Rattle.std.specs.FinMap as map;
 ghost use Rattle.std.specs.FinSet as set;
-ghost use Rattle.outside.specs.Count.{HasCause};
-ghost use Rattle.outside.specs.Shelf.{ShelfRose, AppendsFile};
+ghost use Rattle.outside.specs.Count.{raised};
+ghost use Rattle.outside.specs.Shelf.{Lacks, AppendsFile, CountsFault};
 ghost use Rattle.outside.specs.MemoryShelf.{empty_shelf, file_of, fails_next, has_longer, after_fetch};
 
 use crate::{FetchError, Shelf};
@@ -71,7 +71,6 @@ impl MemoryShelf {
     fn begin_fetch(&mut self) -> bool
         ensures fails { result ≡ fails_next self.old }
         ensures after { self.new ≡ after_fetch self.old }
-        ensures later { self.old.faults ≤ self.new.faults }
     {
         self.fetches = self.fetches.saturating_add(1);
         let fails = self.failing.contains(&self.fetches);
@@ -94,13 +93,13 @@ impl MemoryShelf {
 impl Shelf for MemoryShelf {
     ghost files = { λ s. Some (file_of s) };
 
+    ghost fetches = { λ s. s.fetches };
+
     ghost faults = { λ s. s.faults };
 
     fn fetch(&mut self, name: &str, limit: usize, into: &mut Vec<u8>) -> Result<(), FetchError>
         ensures ok { OnOk result (AppendsFile (Some (file_of self.old name.now)) limit into.old.items into.new.items) }
         ensures err { OnErr result (into.new.items ≡ into.old.items) }
-        ensures cause { HasCause (ShelfRose (Some (file_of self.old)) name.now) self.old.faults self.new.faults
-            (IsErrOf result FetchError.Failed) }
 
         // `Failed` exactly where this fetch is one that is to fail or the name is absent, and `TooLong` exactly at
         // another fetch of a longer file.

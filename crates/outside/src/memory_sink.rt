@@ -1,5 +1,5 @@
-ghost use Rattle.std.specs.Prelude.{◌≡◌, [], ◌++◌, Some, OnOk, OnErr, IfOk, IsErr, IsTrue, ◌↔◌};
-ghost use Rattle.outside.specs.Count.{Rose, HasCause};
+ghost use Rattle.std.specs.Prelude.{◌≡◌, [], ◌++◌, Some, OnOk, OnErr, IfOk, IsErr, is_err, IsTrue, ◌↔◌};
+ghost use Rattle.outside.specs.Count.{counted};
 ghost use Rattle.outside.specs.Sink.{AppendsPrefix};
 ghost use Rattle.outside.specs.MemorySink.{passes, after_put};
 
@@ -55,7 +55,7 @@ impl Sink for MemorySink {
     fn put(&mut self, bytes: &[u8]) -> Result<(), PutFailed>
         ensures ok { OnOk result (self.new.written ≡ self.old.written ++ bytes.now) }
         ensures err { OnErr result (AppendsPrefix (Some self.old.written) (Some self.new.written) bytes.now) }
-        ensures cause { HasCause Rose self.old.faults self.new.faults (IsErr result) }
+        ensures fault { self.new.faults ≡ counted (is_err result) self.old.faults }
 
         // It fails exactly where the bytes pass the room.
         ensures after { self.new ≡ after_put self.old bytes.now }

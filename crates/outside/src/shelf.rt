@@ -1,6 +1,6 @@
 ghost use Rattle.std.specs.Prelude.{◌≡◌, ℕ, List, OnOk, OnErr, IsErrOf, Option};
-ghost use Rattle.outside.specs.Count.{HasCause};
-ghost use Rattle.outside.specs.Shelf.{told, Lacks, ShelfRose, AppendsFile, IsLonger};
+ghost use Rattle.outside.specs.Count.{raised};
+ghost use Rattle.outside.specs.Shelf.{told, Lacks, AppendsFile, IsLonger, CountsFault};
 
 use std::alloc::AllocError;
 use std::fmt;
@@ -49,21 +49,20 @@ pub trait Shelf {
     /// The bytes of the file of each name, where there is one. `None` where the shelf does not tell.
     ghost files: { Self → Option (List ℕ → Option (List ℕ)) };
 
-    /// How often the shelf has met a fault. The count stays at its last value, `2^64-1`.
+    /// How many fetches there were, and how many met a fault. A count stays at its last value, `2^64-1`.
+    ghost fetches: { Self → ℕ };
+
     ghost faults: { Self → ℕ };
 
     /// Appends the whole file of this name, which may have up to `limit` bytes.
     fn fetch(&mut self, name: &str, limit: usize, into: &mut Vec<u8>) -> Result<(), FetchError>
         ensures same_files { files self.new ≡ files self.old }
+        ensures counted { fetches self.new ≡ raised (fetches self.old) }
         ensures ok { OnOk result (AppendsFile (told (files self.old) name.now) limit into.old.items into.new.items) }
         ensures err { OnErr result (into.new.items ≡ into.old.items) }
 
-        // `Failed` only where the count of faults rose, and at each name that is told to be absent.
-        ensures cause { HasCause (ShelfRose (files self.old) name.now) (faults self.old) (faults self.new)
-            (IsErrOf result FetchError.Failed) }
+        // When each error comes. `Failed` alone counts a fault.
         ensures absent { Lacks (files self.old) name.now → IsErrOf result FetchError.Failed }
-
-        // `TooLong` is no fault.
         ensures too_long { IsErrOf result FetchError.TooLong → IsLonger (told (files self.old) name.now) limit }
-        ensures no_fault { IsErrOf result FetchError.TooLong → faults self.new ≡ faults self.old };
+        ensures fault { CountsFault (Lacks (files self.old) name.now) (faults self.old) (faults self.new) result };
 }

@@ -1,6 +1,6 @@
-ghost use Rattle.std.specs.Prelude.{◌≡◌, ℕ, List, OnOk, OnErr, IsErr, Option};
+ghost use Rattle.std.specs.Prelude.{◌≡◌, ℕ, List, OnOk, OnErr, is_err, Option};
 ghost use Rattle.std.specs.Io.KnownBytes.{append_known};
-ghost use Rattle.outside.specs.Count.{Rose, HasCause};
+ghost use Rattle.outside.specs.Count.{counted};
 ghost use Rattle.outside.specs.Sink.{AppendsPrefix};
 
 use std::fmt;
@@ -35,6 +35,6 @@ pub trait Sink {
         ensures ok { OnOk result (written self.new ≡ append_known (written self.old) bytes.now) }
         ensures err { OnErr result (AppendsPrefix (written self.old) (written self.new) bytes.now) }
 
-        // It fails only where the count of faults rose.
-        ensures cause { HasCause Rose (faults self.old) (faults self.new) (IsErr result) };
+        // The count of faults rises by one where it fails, and stays where it does not.
+        ensures fault { faults self.new ≡ counted (is_err result) (faults self.old) };
 }

