@@ -49,9 +49,10 @@ pub trait Shelf {
     /// The bytes of the file of each name, where there is one. `None` where the shelf does not tell.
     ghost files: { Self → Option (List ℕ → Option (List ℕ)) };
 
-    /// How many fetches there were, and how many met a fault. A count stays at its last value, `2^64-1`.
+    /// How many fetches there were. The count stays at its last value, `2^64-1`.
     ghost fetches: { Self → ℕ };
 
+    /// How many of them met a fault. The count stays at its last value, `2^64-1`.
     ghost faults: { Self → ℕ };
 
     /// Appends the whole file of this name, which may have up to `limit` bytes.

@@ -1,5 +1,5 @@
 ghost use Rattle.std.specs.Prelude.{◌≡◌, ℕ, List, OnOk, OnErr, is_err, Option};
-ghost use Rattle.std.specs.Io.KnownBytes.{append_known};
+ghost use Rattle.std.specs.Io.KnownBytes.{Appends};
 ghost use Rattle.outside.specs.Count.{counted};
 ghost use Rattle.outside.specs.Sink.{AppendsPrefix};
 
@@ -32,7 +32,7 @@ pub trait Sink {
 
     /// Appends all the bytes, or those in front of a fault. It takes no memory.
     fn put(&mut self, bytes: &[u8]) -> Result<(), PutFailed>
-        ensures ok { OnOk result (written self.new ≡ append_known (written self.old) bytes.now) }
+        ensures ok { OnOk result (Appends (written self.old) (written self.new) bytes.now) }
         ensures err { OnErr result (AppendsPrefix (written self.old) (written self.new) bytes.now) }
 
         // The count of faults rises by one where it fails, and stays where it does not.

@@ -1,7 +1,7 @@
 ghost use Rattle.std.specs.Prelude.{◌≡◌, None, OnOk, OnErr, is_err};
 ghost use Rattle.std.specs.Io.KnownBytes.{Appends};
 ghost use Rattle.outside.specs.Count.{counted};
-ghost use Rattle.outside.specs.Sink.{TakesPrefix};
+ghost use Rattle.outside.specs.Sink.{AppendsPrefix};
 
 use crate::{PutFailed, Sink};
 use std::io;
@@ -49,7 +49,7 @@ impl<P: Print> Sink for StreamSink<P> {
 // Writes the bytes piece by piece: all of them, or those in front of a fault.
 pub(crate) fn write_whole<W: Write>(output: &mut W, bytes: &[u8]) -> Result<(), PutFailed>
     ensures ok { OnOk result (Appends (W.contents output.old) (W.contents output.new) bytes.now) }
-    ensures err { OnErr result (TakesPrefix (W.contents output.old) (W.contents output.new) bytes.now) }
+    ensures err { OnErr result (AppendsPrefix (W.contents output.old) (W.contents output.new) bytes.now) }
 {
     let mut rest = bytes;
     for _ in 0..u64::MAX {

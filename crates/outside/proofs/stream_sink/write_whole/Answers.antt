@@ -3,16 +3,16 @@ use Rattle.std.proofs.lemmas.List.{length-append, take_rest}
 use Rattle.std.proofs.Math.Seq.{take-append_seam}
 use Rattle.std.specs.Io.KnownBytes.{Appends}
 use Rattle.std.proofs.KnownBytes.{Appends-trans, Appends-kept}
-use Rattle.outside.specs.Sink.{TakesPrefix}
+use Rattle.outside.specs.Sink.{AppendsPrefix}
 use Rattle.outside.proofs.stream_sink.write_whole.Goals as goal
 use Rattle.outside.proofs.stream_sink.write_whole.Goals.{in-Ok, in-Err+else-ne}
 
 -- what was written is the front of the bytes
-front-written : (old now : Option (List ℕ)) (bytes done rest : List ℕ) → bytes ≡ done ++ rest → Appends old now done → TakesPrefix old now bytes
+front-written : (old now : Option (List ℕ)) (bytes done rest : List ℕ) → bytes ≡ done ++ rest → Appends old now done → AppendsPrefix old now bytes
 front-written old now bytes done rest split written = record {
   count = length done;
   within = let size = ap length split ∙ length-append done rest in omega arith;
-  taken = subst (Appends old now) (sym (ap (take (length done)) split ∙ take-append_seam done rest)) written;
+  appended = subst (Appends old now) (sym (ap (take (length done)) split ∙ take-append_seam done rest)) written;
 }
 
 -- the next n bytes go over to what was written
