@@ -1,6 +1,7 @@
-pub mod AnswerLaws
 pub mod DecideLaws
 pub mod Examples
+pub mod FileLaws
 pub mod LimitLaws
 pub mod LoadLaws
+pub mod RunLaws
 pub mod UsualLaws

@@ -10,8 +10,8 @@ use Rattle.std.proofs.lemmas.Bool.Decides.{nat_tests}
 use Rattle.std.proofs.lemmas.List.Elements.{Contains-append_left}
 use Rattle.std.proofs.lemmas.Map.Keys.{IsDistinct-cons}
 use Rattle.std.proofs.lemmas.Map.Made.{length-le_from_is_member}
-use Rattle.circuits.specs.Circuit.{Circuit}
-use Rattle.circuits.proofs.Members.{Contains-cases, Contains-nil, list_all-true}
+use Rattle.netlist.specs.Circuit.{Circuit}
+use Rattle.netlist.proofs.Members.{Contains-cases, Contains-nil, list_all-true}
 use Rattle.spec_lang.specs.Placed.{net_values}
 use Rattle.spec_lang.specs.Specification.{Check, Specification}
 use Rattle.spec_lang.specs.Value.{all_in_range}
@@ -30,8 +30,7 @@ use Rattle.checks.specs.declared.method.Method.TheVariants.{Forward}
 use Rattle.kind_laws.specs.Graph.{HasShape, Lookup}
 use Rattle.kind_laws.proofs.GraphLaws.{same_id_of_shape}
 use Rattle.diagram.specs.Causes.{HasNodeShape}
-use Rattle.diagram.specs.View.{View, find_in}
-use Rattle.check_run.specs.Decided.{cells}
+use Rattle.diagram.specs.View.{View, find_in, room}
 
 -- ---- over the range
 list_fails : {X : Type 0} (p : X → Bool) (xs : List X) (x : X) → Contains xs x → p x ≡ false → list_all p xs ≡ false
@@ -148,17 +147,17 @@ module _ (find : Lookup) (nodes : List Shape) (no_twice : (i j : ℕ) (body : Li
       omega (arith, fewer, all.many)
 
 -- ---- short of cells
--- where a builder that knew nothing made 262,144 nodes of the work, the check is short of cells
+-- where a builder that knew nothing made as many nodes of the work as it has room for, the check is short of cells
 pub short_of_spent : (c : Circuit) (s : Specification) (check : Check) (old new : View) → old.known ≡ [] → new.letters ≡ s.letters →
-    ((i j : ℕ) (body : List ℕ) → find_in new.known i ≡ Some body → find_in new.known j ≡ Some body → i ≡ j) → length new.known ≡ cells →
+    ((i j : ℕ) (body : List ℕ) → find_in new.known i ≡ Some body → find_in new.known j ≡ Some body → i ≡ j) → length new.known ≡ room →
     ((id : ℕ) (body : List ℕ) → find_in new.known id ≡ Some body → (find_in old.known id ≡ Some body) ⊎ HasNodeShape new (building_work c s check) id) →
-    short Hdd Forward 1 cells c s check ≡ true
+    short Hdd Forward 1 room c s check ≡ true
 short_of_spent c s check old new empty letters no_twice spent made =
     let nodes = nodes_of Hdd s.letters (forward_work c s check) in
     let fewer = as_many (find_in new.known) nodes no_twice new.known (λ j body is. told j body is) in
     short_of (need Hdd Forward c s check) (omega (arith, fewer, spent))
   where
-    short_of : (n : ℕ) → 262144 ≤ n → nat_le 262144 (n + 256 * (1 - 1)) ≡ true
+    short_of : (n : ℕ) → room ≤ n → nat_le room (n + 256 * (1 - 1)) ≡ true
     short_of n h = grind (arith, nat_tests)
 
     none_known : (id : ℕ) (body : List ℕ) → find_in [] id ≡ Some body → ⊥

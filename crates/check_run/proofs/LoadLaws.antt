@@ -1,50 +1,51 @@
--- Why a file stops a run.
-use Rattle.std.proofs.Common.{◌≡◌, subst, ℕ, ◌≤◌, List, arith, inl, inr}
-use Rattle.std.specs.Prelude.{Some}
-use Rattle.circuits.specs.Circuit.{Circuit}
-use Rattle.outside.specs.Count.{Rose}
-use Rattle.outside.specs.Shelf.{ShelfRose}
-use Rattle.report.specs.declared.refusal.Refusal.{Refusal}
-use Rattle.report.specs.declared.refusal.Refusal.TheVariants as refusal
+-- From what came of the specification's file, after the netlist's, to what came of both.
+use Rattle.std.proofs.Common.{◌≡◌, sym, ◌∙◌, ap, subst, ℕ, List, inl, inr}
+use Rattle.std.specs.Prelude.{IsErrAnd, Result, Some, Ok, Err}
+use Rattle.netlist.specs.Circuit.{Circuit}
+use Rattle.spec_lang.specs.Specification.{Specification}
+use Rattle.outside.specs.Count.{raised}
+use Rattle.outside.specs.Shelf.{Lacks}
 use Rattle.check_run.specs.declared.stop.Stop.{Stop}
 use Rattle.check_run.specs.declared.stop.Stop.TheVariants as stop
+use Rattle.check_run.specs.Files.{RefusesSpec, SaysNetlist, SaysSpec}
+use Rattle.check_run.specs.Loading.{ComesTo, Loads}
+use Rattle.check_run.specs.Outside.{Files, ShelfSeen}
+use Rattle.check_run.specs.Reading.{IsUnread}
 use Rattle.check_run.specs.Words.{Names, names_of}
-use Rattle.check_run.specs.Loaded.{Files, IsFileStop, IsStopped, IsRefused, RefusesNetlist, RefusesSpec, SaysNetlist}
 
--- ---- faults
-rose_since : (before mid now : ℕ) → before ≤ mid → Rose mid now → Rose before now
-rose_since before mid now later rose = omega (arith, later, rose)
+-- the first fetch left the files and the faults, and raised the fetches
+pub record IsMidway (old mid : ShelfSeen) : Type 0 where
+  pub files : mid.files ≡ old.files
+  pub fetches : mid.fetches ≡ raised old.fetches
+  pub faults : mid.faults ≡ old.faults
 
-shelf_rose_since : (files : Files) (name : List ℕ) (before mid now : ℕ) → before ≤ mid → ShelfRose files name mid now → ShelfRose files name before now
-shelf_rose_since files name before mid now later (inl rose) = inl (rose_since before mid now later rose)
-shelf_rose_since files name before mid now later (inr lacks) = inr lacks
+unread_since : (old mid new : ShelfSeen) (name : List ℕ) → IsMidway old mid → IsUnread mid new name → IsUnread old new name
+unread_since old mid new name midway (inl rose) = inl (rose ∙ ap raised midway.faults)
+unread_since old mid new name midway (inr (lacks, same)) =
+    inr (subst (λ (f : Files). Lacks f name) midway.files lacks, same ∙ midway.faults)
 
--- ---- stops
-netlist_refused : (words : List (List ℕ)) (files : Files) (names : Names) (r : Refusal) → names_of words ≡ Some names → RefusesNetlist files names.netlist r → IsRefused words files r
-netlist_refused words files names refusal.Words is h = absurd h
-netlist_refused words files names refusal.NetlistTooLong is h = (names, is, h)
-netlist_refused words files names (refusal.Netlist fault) is h = (names, is, h)
-netlist_refused words files names refusal.SpecTooLong is h = absurd h
-netlist_refused words files names refusal.Spec is h = absurd h
+twice : (old mid new : ShelfSeen) → IsMidway old mid → new.fetches ≡ raised mid.fetches → new.fetches ≡ raised (raised old.fetches)
+twice old mid new midway once = once ∙ ap raised midway.fetches
 
-spec_refused : (words : List (List ℕ)) (files : Files) (names : Names) (c : Circuit) (r : Refusal) → names_of words ≡ Some names → SaysNetlist files names.netlist c →
-    RefusesSpec files names.spec c r → IsRefused words files r
-spec_refused words files names c refusal.Words is says h = absurd h
-spec_refused words files names c refusal.NetlistTooLong is says h = absurd h
-spec_refused words files names c (refusal.Netlist fault) is says h = absurd h
-spec_refused words files names c refusal.SpecTooLong is says h = (names, is, c, says, h)
-spec_refused words files names c refusal.Spec is says h = (names, is, c, says, h)
+spec_stopped : (words : List (List ℕ)) (old mid new : ShelfSeen) (names : Names) (c : Circuit) (s : Stop) → names_of words ≡ Some names →
+    IsMidway old mid → SaysNetlist old.files names.netlist c → new.fetches ≡ raised mid.fetches →
+    ComesTo {X = Specification} (SaysSpec mid.files names.spec c) (RefusesSpec mid.files names.spec c) mid new names.spec (Err s) →
+    Loads words old new (Err s)
+spec_stopped words old mid new names c (stop.Refused r) is midway says once (refuses, same) = (
+  inr (names, is, inr (c, says, twice old mid new midway once, subst (λ (f : Files). RefusesSpec f names.spec c r) midway.files refuses)),
+  same ∙ midway.faults,
+)
+spec_stopped words old mid new names c stop.ReadFault is midway says once unread =
+    inr (names, is, inr (c, says, twice old mid new midway once, unread_since old mid new names.spec midway unread))
+spec_stopped words old mid new names c stop.Memory is midway says once (there, same) = (
+  inr (names, is, inr (c, says, twice old mid new midway once, subst (λ (f : Files). Lacks f names.spec → ⊥) midway.files there)),
+  same ∙ midway.faults,
+)
 
-pub netlist_stopped : (words : List (List ℕ)) (files : Files) (names : Names) (before now : ℕ) (s : Stop) → names_of words ≡ Some names →
-    IsFileStop (RefusesNetlist files names.netlist) files names.netlist before now s → IsStopped words files before now s
-netlist_stopped words files names before now (stop.Refused r) is h = netlist_refused words files names r is h
-netlist_stopped words files names before now stop.ReadFault is h = (names, is, inl h)
-netlist_stopped words files names before now stop.Memory is h = tt
-
-pub spec_stopped : (words : List (List ℕ)) (files later_files : Files) (names : Names) (c : Circuit) (before mid now : ℕ) (s : Stop) → names_of words ≡ Some names → later_files ≡ files →
-    before ≤ mid → SaysNetlist files names.netlist c → IsFileStop (RefusesSpec later_files names.spec c) later_files names.spec mid now s → IsStopped words files before now s
-spec_stopped words files later_files names c before mid now (stop.Refused r) is same later says h =
-    spec_refused words files names c r is says (subst (λ (f : Files). RefusesSpec f names.spec c r) same h)
-spec_stopped words files later_files names c before mid now stop.ReadFault is same later says h =
-    (names, is, inr (c, says, shelf_rose_since files names.spec before mid now later (subst (λ (f : Files). ShelfRose f names.spec mid now) same h)))
-spec_stopped words files later_files names c before mid now stop.Memory is same later says h = tt
+pub spec_stops : (words : List (List ℕ)) (old mid new : ShelfSeen) (names : Names) (c : Circuit) (s : Stop) (r : Result (Circuit × Specification) Stop) → names_of words ≡ Some names →
+    IsMidway old mid → SaysNetlist old.files names.netlist c → new.fetches ≡ raised mid.fetches →
+    ComesTo {X = Specification} (SaysSpec mid.files names.spec c) (RefusesSpec mid.files names.spec c) mid new names.spec (Err s) →
+    IsErrAnd r (λ x. x ≡ s) → Loads words old new r
+spec_stops words old mid new names c s (Ok both) is midway says once stops same = absurd same
+spec_stops words old mid new names c s (Err other) is midway says once stops same =
+    subst (λ (x : Stop). Loads words old new (Err x)) (sym same) (spec_stopped words old mid new names c s is midway says once stops)

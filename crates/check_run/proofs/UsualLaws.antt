@@ -2,14 +2,14 @@
 use Rattle.std.proofs.Common.{◌≡◌, refl, subst, ℕ, zero, suc, List, [], ◌∷◌, ◌++◌, replicate}
 use Rattle.std.specs.Prelude.{Option, Some, None}
 use Rattle.std.specs.Option.{option_map, option_and_then}
-use Rattle.circuits.specs.Circuit.{Circuit, input_count}
+use Rattle.netlist.specs.Circuit.{Circuit, input_count}
 use Rattle.spec_lang.specs.Specification.{Check, Specification, Word}
 use Rattle.word_base.specs.declared.decomp.Decomp.TheVariants.{P}
 use Rattle.word_base.specs.declared.kind_name.KindName.TheVariants.{Hdd}
 use Rattle.first_form.specs.FirstForm.{said, with_usual, check_line, word_line, first_form}
 use Rattle.first_form.specs.Parts.{pieces, between_spaces}
 use Rattle.diagram.specs.View.{AreAllP}
-use Rattle.check_run.specs.Fetched.{IsUsual}
+use Rattle.check_run.specs.Usual.{IsUsual}
 
 all_same : (n : ℕ) → AreAllP (replicate n P)
 all_same zero = tt

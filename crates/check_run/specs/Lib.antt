@@ -1,7 +1,12 @@
-pub mod Decided
-pub mod Fetched
-pub mod Halted
-pub mod Loaded
-pub mod Run
-pub mod Statuses
+-- What `run` promises stands in `Run`. It is read after `Words`, `Outside`, `Files`, `Reading`, `Verdicts` and `Statuses`.
+-- `Loading`, `Usual` and `Deciding` serve private functions alone.
 pub mod Words
+pub mod Outside
+pub mod Files
+pub mod Reading
+pub mod Verdicts
+pub mod Statuses
+pub mod Run
+pub mod Loading
+pub mod Usual
+pub mod Deciding

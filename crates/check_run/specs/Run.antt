@@ -1,97 +1,92 @@
--- What a run puts out, and with what status it ends.
-use Rattle.std.specs.Prelude.{◌≡◌, ◌⊎◌, ℕ, ◌≤◌, Bool, true, false, List, [], ◌∷◌, ◌++◌, length, map, Option, Some, Ok, slice_get}
-use Rattle.std.specs.Io.KnownBytes.{append_known}
-use Rattle.circuits.specs.Circuit.{Circuit, name_of}
-use Rattle.bench_reader.specs.Reading.{reading}
+-- What a run does.
+use Rattle.std.specs.Prelude.{◌≡◌, ◌⊎◌, ℕ, Bool, true, false, List, [], ◌∷◌, ◌++◌, map, Some, IsTrue}
+use Rattle.std.specs.Io.KnownBytes.{Appends}
+use Rattle.netlist.specs.Circuit.{Circuit, name_of}
 use Rattle.spec_lang.specs.Specification.{Check, Specification}
-use Rattle.first_form.specs.FirstForm.{first_form}
-use Rattle.word_base.specs.declared.kind_name.KindName.TheVariants.{Hdd}
 use Rattle.checks.specs.Answer.{answer}
 use Rattle.checks.specs.declared.verdict.Verdict.{Verdict}
-use Rattle.checks.specs.Limits.{over, short}
-use Rattle.checks.specs.declared.method.Method.TheVariants.{Forward}
-use Rattle.check_run.specs.declared.status.Status.{Status}
-use Rattle.check_run.specs.declared.status.Status.TheVariants.{Done, Differs, Refused, Limited, ReadFault, WriteFault, NoMemory}
-use Rattle.outside.specs.Count.{Rose}
-use Rattle.outside.specs.Shelf.{told}
+use Rattle.outside.specs.Count.{raised, Rose}
+use Rattle.outside.specs.Shelf.{Lacks}
 use Rattle.outside.specs.Sink.{AppendsPrefix}
 use Rattle.report.specs.Lines.{verdict_line}
 use Rattle.report.specs.Refusals.{refusal_text}
 use Rattle.report.specs.declared.refusal.Refusal.{Refusal}
-use Rattle.check_run.specs.Decided.{IsReported, cells}
-use Rattle.check_run.specs.Loaded.{Files, IsLoaded, IsRefused, most_bytes}
+use Rattle.check_run.specs.declared.status.Status.{Status}
+use Rattle.check_run.specs.declared.status.Status.TheVariants.{Refused, ReadFault, WriteFault, NoMemory}
+use Rattle.check_run.specs.Files.{Accepts}
+use Rattle.check_run.specs.Outside.{Outside, ShelfSeen, SinkSeen}
+use Rattle.check_run.specs.Reading.{FailsToRead, IsRefused, IsTaken, WantsMemory}
 use Rattle.check_run.specs.Statuses.{status_of}
+use Rattle.check_run.specs.Verdicts.{IsReported, MeetsNoLimit}
 use Rattle.check_run.specs.Words.{Names, names_of}
 
--- one line that refuses
-pub record Refuses (words : List (List ℕ)) (files : Files) (text : List ℕ) (status : Status) : Type 0 where
-  pub refusal : Refusal
-  pub refused : IsRefused words files refusal
+-- the line of a refusal, and its status
+pub record IsRefusalLine (refusal : Refusal) (text : List ℕ) (status : Status) : Type 0 where
   pub text_is : text ≡ refusal_text refusal ++ 10 ∷ []
   pub status_is : status ≡ Refused
 
--- the line of the check
-pub record Reports (words : List (List ℕ)) (files : Files) (text : List ℕ) (status : Status) : Type 0 where
-  pub circuit : Circuit
-  pub spec : Specification
-  pub verdict : Verdict
-  pub loaded : IsLoaded words files circuit spec
-  pub reported : IsReported circuit spec 0 verdict
-  pub text_is : text ≡ verdict_line 1 (map (name_of circuit) spec.order) verdict
+-- the line of the first check, with this verdict, and its status
+pub record IsVerdictLine (c : Circuit) (s : Specification) (verdict : Verdict) (text : List ℕ) (status : Status) : Type 0 where
+  pub text_is : text ≡ verdict_line 1 (map (name_of c) s.order) verdict
   pub status_is : status ≡ status_of (verdict ∷ [])
 
--- the text that a run has to put out, and the status that goes with it
-abbrev pub Says : List (List ℕ) → Files → List ℕ → Status → Type 0
-Says words files text status = Refuses words files text status ⊎ Reports words files text status
+-- The line that a run has to write, and the status that goes with it: the words or a file are refused, or both files are
+-- taken and the verdict has its cause
+abbrev pub IsLine : List (List ℕ) → ShelfSeen → ShelfSeen → List ℕ → Status → Type 0
+IsLine words old new text status =
+    ((refusal : Refusal) × IsRefused words old new refusal × IsRefusalLine refusal text status)
+    ⊎ ((c : Circuit) × (s : Specification) × (verdict : Verdict)
+    × IsTaken words old new c s × IsReported c s 0 verdict × IsVerdictLine c s verdict text status)
 
--- the whole text was written
+-- the line was written whole
+pub record WritesLine (words : List (List ℕ)) (old new : Outside) (status : Status) : Type 0 where
+  pub text : List ℕ
+  pub line : IsLine words old.shelf new.shelf text status
+  pub appended : Appends old.sink.written new.sink.written text
+
+-- a part of the line, from its beginning, was written, and a fault of the sink was counted
+pub record WritesPart (words : List (List ℕ)) (old new : Outside) : Type 0 where
+  pub text : List ℕ
+  pub status : Status
+  pub line : IsLine words old.shelf new.shelf text status
+  pub appended : AppendsPrefix old.sink.written new.sink.written text
+  pub fault : new.sink.faults ≡ raised old.sink.faults
+
+-- the line of the answer was written
+pub record WritesAnswer (c : Circuit) (s : Specification) (check : Check) (old new : SinkSeen) (status : Status) : Type 0 where
+  pub text : List ℕ
+  pub line : IsVerdictLine c s (answer c s check) text status
+  pub appended : Appends old.written new.written text
+
+-- the line of the answer was written, or a fault was counted, or memory was wanting
+abbrev pub Answers : Circuit → Specification → Check → Outside → Outside → Status → Type 0
+Answers c s check old new ReadFault = Rose old.shelf.faults new.shelf.faults
+Answers c s check old new WriteFault = Rose old.sink.faults new.sink.faults
+Answers c s check old new NoMemory = Unit {0}
+Answers c s check old new status = WritesAnswer c s check old.sink new.sink status
+
+-- a line was written whole
 abbrev pub is_written : Status → Bool
-is_written Done = true
-is_written Differs = true
-is_written Refused = true
-is_written Limited = true
 is_written ReadFault = false
 is_written WriteFault = false
 is_written NoMemory = false
+is_written status = true
 
--- all of the text was put out
-pub record PutsAll (words : List (List ℕ)) (files : Files) (old new : Option (List ℕ)) (status : Status) : Type 0 where
-  pub text : List ℕ
-  pub says : Says words files text status
-  pub appended : new ≡ append_known old text
-
--- a part of the text from its beginning was put out, and the sink's count of faults rose
-pub record PutsPart (words : List (List ℕ)) (files : Files) (old new : Option (List ℕ)) (before now : ℕ) : Type 0 where
-  pub text : List ℕ
-  pub status : Status
-  pub says : Says words files text status
-  pub appended : AppendsPrefix old new text
-  pub rose : Rose before now
-
--- the file of this name is told, and has no more bytes than a file may have
-pub record IsToldText (files : Files) (name text : List ℕ) : Type 0 where
-  pub told : told files name ≡ Some (Some text)
-  pub within : length text ≤ most_bytes
-
--- the words name two files that the shelf tells, and both are taken: the netlist reads as the circuit, and the
--- specification's text says the specification, with this check
-pub record Accepts (words : List (List ℕ)) (files : Files) (c : Circuit) (s : Specification) (check : Check) : Type 0 where
-  pub names : Names
-  pub named : names_of words ≡ Some names
-  pub netlist_text : List ℕ
-  pub netlist : IsToldText files names.netlist netlist_text
-  pub reads : reading netlist_text ≡ Ok c
-  pub spec_text : List ℕ
-  pub spec : IsToldText files names.spec spec_text
-  pub says : first_form c Hdd spec_text ≡ Some s
-  pub check_is : slice_get s.checks 0 ≡ Some check
-
--- no limit has its cause in the check
-pub record MeetsNoLimit (c : Circuit) (s : Specification) (check : Check) : Type 0 where
-  pub not_over : over Hdd Forward c s check ≡ false
-  pub not_short : short Hdd Forward 1 cells c s check ≡ false
-
--- the line of the answer was written, with its status
-pub record Answers (c : Circuit) (s : Specification) (check : Check) (old new : Option (List ℕ)) (status : Status) : Type 0 where
-  pub written : new ≡ append_known old (verdict_line 1 (map (name_of c) s.order) (answer c s check))
-  pub status_is : status ≡ status_of (answer c s check ∷ [])
+-- A run of these words, from the outside as it was to the outside as it is, with the status that it answers
+pub record IsRun (words : List (List ℕ)) (old new : Outside) (status : Status) : Type 0 where
+  -- the files stay
+  pub files : new.shelf.files ≡ old.shelf.files
+  -- what happened, at each status
+  pub written : IsTrue (is_written status) → WritesLine words old new status
+  pub write_fault : status ≡ WriteFault → WritesPart words old new
+  pub read_fault : status ≡ ReadFault → FailsToRead words old.shelf new.shelf
+  pub no_memory : status ≡ NoMemory → WantsMemory words old.shelf new.shelf
+  -- no other fault is counted, and else nothing is written
+  pub no_read_fault : (status ≡ ReadFault → ⊥) → new.shelf.faults ≡ old.shelf.faults
+  pub no_write_fault : (status ≡ WriteFault → ⊥) → new.sink.faults ≡ old.sink.faults
+  pub nothing : (status ≡ ReadFault) ⊎ (status ≡ NoMemory) → new.sink.written ≡ old.sink.written
+  -- where both files are taken and no limit has its cause, the answer is written
+  pub answered : (c : Circuit) (s : Specification) (check : Check) →
+      Accepts words old.shelf.files c s check → MeetsNoLimit c s check → Answers c s check old new status
+  -- a netlist's file that is told to be absent is a fault of reading
+  pub absent : (names : Names) → names_of words ≡ Some names → Lacks old.shelf.files names.netlist → status ≡ ReadFault

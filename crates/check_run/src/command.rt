@@ -1,46 +1,65 @@
-ghost use Rattle.std.specs.Prelude.{◌≡◌, ◌⊎◌, ℕ, ◌≤◌, map, IfOk, IfErr, IsTrue, string_bytes};
-ghost use Rattle.check_run.specs.Halted.{IsHalted};
-ghost use Rattle.check_run.specs.Loaded.{FailsToRead};
-ghost use Rattle.check_run.specs.Run.{Accepts, Answers, MeetsNoLimit, PutsAll, PutsPart, Says, is_written};
-ghost use Rattle.circuits.specs.Circuit.{Circuit};
-ghost use Rattle.spec_lang.specs.Specification.{Check, Specification};
+ghost use Rattle.std.specs.Prelude.{◌≡◌, IfOk, OnErr, string_bytes};
+ghost use Rattle.check_run.specs.Loading.{PutsText};
+ghost use Rattle.check_run.specs.Outside.{seen, shelf_seen, sink_seen, texts};
+ghost use Rattle.check_run.specs.Run.{IsRefusalLine, IsRun, IsVerdictLine};
+ghost use Rattle.check_run.specs.Usual.{IsUsual};
+ghost use Rattle.check_run.specs.Verdicts.{IsReported};
+ghost use Rattle.checks.specs.declared.verdict.Verdict.{Verdict};
+ghost use Rattle.spec_lang.specs.WellFormed.{IsOver};
 
 use crate::decide::decide;
 use crate::load::load;
 use crate::status::{Status, status_of};
-use crate::stop::{Halt, Stop};
+use crate::stop::Stop;
+use netlist::Netlist;
 use outside::{Gate, PutFailed, Shelf, Sink};
-use report::{line, refusal_line};
+use report::{Refusal, line, refusal_line};
+use spec_lang::Spec;
 use std::alloc::{AllocError, Global};
 
-/// A text, and the status that goes with it.
+/// A line to write, and the status that goes with it.
 #[derive(Drop)]
-struct Said {
+struct Outcome {
     text: String,
     status: Status,
 }
 
-/// The line that the words and the files lead to.
-fn prepare<F: Shelf>(alloc: Global, words: &[&str], shelf: &mut F) -> Result<Said, Halt>
-    ensures files { F.files shelf.new ≡ F.files shelf.old }
-    ensures later { F.faults shelf.old ≤ F.faults shelf.new }
-    ensures said { IfOk result (λ said. Says (map (λ w. w.now) words.now) (F.files shelf.old) (string_bytes said.text) said.status) }
-    ensures halted { IfErr result (λ halt. IsHalted (map (λ w. w.now) words.now) (F.files shelf.old) (F.faults shelf.old) (F.faults shelf.new) halt) }
+/// The line of a refusal.
+fn refused(alloc: Global, refusal: &Refusal) -> Result<Outcome, AllocError>
+    ensures { IfOk result (λ outcome. IsRefusalLine refusal.now (string_bytes outcome.text) outcome.status) }
 {
-    match load(alloc, words, shelf) {
-        Ok((netlist, spec)) => {
-            let verdict = decide(alloc, &netlist, &spec, 0)?;
-            let text = line(alloc, 1, &netlist, spec.order(), &verdict)?;
-            let status = status_of(&verdict);
-            Ok(Said { text, status })
-        }
-        Err(Stop::Refused(refusal)) => {
-            let text = refusal_line(alloc, &refusal)?;
-            let status = Status::Refused;
-            Ok(Said { text, status })
-        }
-        Err(Stop::ReadFault) => Err(Halt::ReadFault),
-        Err(Stop::Memory) => Err(Halt::Memory),
+    let text = refusal_line(alloc, refusal)?;
+    let status = Status::Refused;
+    Ok(Outcome { text, status })
+}
+
+/// The line of the check.
+fn checked(alloc: Global, netlist: &Netlist, spec: &Spec) -> Result<Outcome, AllocError>
+    requires over { IsOver netlist.now spec.now }
+    requires usual { IsUsual spec.now }
+    ensures { IfOk result (λ outcome. (verdict : Verdict) × IsReported netlist.now spec.now 0 verdict
+        × IsVerdictLine netlist.now spec.now verdict (string_bytes outcome.text) outcome.status) }
+{
+    let verdict = decide(alloc, netlist, spec, 0)?;
+    let text = line(alloc, 1, netlist, spec.order(), &verdict)?;
+    let status = status_of(&verdict);
+    Ok(Outcome { text, status })
+}
+
+/// Puts out a line, where it was made.
+fn put<O: Sink>(out: &mut O, outcome: Result<Outcome, AllocError>) -> Status
+    ensures put { IfOk outcome (λ o. PutsText (sink_seen O.written O.faults out.old)
+        (sink_seen O.written O.faults out.new) (string_bytes o.text) o.status result) }
+    ensures not_made { OnErr outcome (result ≡ Status.NoMemory) }
+    ensures nothing { OnErr outcome (sink_seen O.written O.faults out.new
+        ≡ sink_seen O.written O.faults out.old) }
+{
+    let Ok(outcome) = outcome else {
+        return Status::NoMemory;
+    };
+    match out.put(outcome.text.as_bytes()) {
+        Ok(()) => outcome.status,
+        Err(PutFailed) => Status::WriteFault,
     }
 }
 
@@ -53,29 +72,15 @@ pub fn run<F: Shelf, O: Sink, G: Gate>(
     out: &mut O,
     _gate: &G,
 ) -> Status
-    // the shelf's files stay, and no count of faults falls
-    ensures files { F.files shelf.new ≡ F.files shelf.old }
-    ensures read_later { F.faults shelf.old ≤ F.faults shelf.new }
-    ensures write_later { O.faults out.old ≤ O.faults out.new }
-
-    // one line is written whole: that of a refusal or of a verdict which has its cause
-    ensures written { IsTrue (is_written result) → PutsAll (map (λ w. w.now) words.now) (F.files shelf.old) (O.written out.old) (O.written out.new) result }
-
-    // where both files are taken and no limit has its cause, that is the line of the answer
-    ensures answered { (c : Circuit) (s : Specification) (check : Check) → Accepts (map (λ w. w.now) words.now) (F.files shelf.old) c s check →
-        MeetsNoLimit c s check → IsTrue (is_written result) → Answers c s check (O.written out.old) (O.written out.new) result }
-
-    // a fault of reading, after which nothing is written, or of writing
-    ensures read_fault { result ≡ Status.ReadFault → FailsToRead (map (λ w. w.now) words.now) (F.files shelf.old) (F.faults shelf.old) (F.faults shelf.new) }
-    ensures nothing { (result ≡ Status.ReadFault) ⊎ (result ≡ Status.NoMemory) → O.written out.new ≡ O.written out.old }
-    ensures write_fault { result ≡ Status.WriteFault → PutsPart (map (λ w. w.now) words.now) (F.files shelf.old) (O.written out.old) (O.written out.new) (O.faults out.old) (O.faults out.new) }
+    ensures { IsRun (texts words.now)
+        (seen (shelf_seen F.files F.fetches F.faults shelf.old) (sink_seen O.written O.faults out.old))
+        (seen (shelf_seen F.files F.fetches F.faults shelf.new) (sink_seen O.written O.faults out.new))
+        result }
 {
-    match prepare(alloc, words, shelf) {
-        Ok(said) => match out.put(said.text.as_bytes()) {
-            Ok(()) => said.status,
-            Err(PutFailed) => Status::WriteFault,
-        },
-        Err(Halt::ReadFault) => Status::ReadFault,
-        Err(Halt::Memory) => Status::NoMemory,
+    match load(alloc, words, shelf) {
+        Ok((netlist, spec)) => put(out, checked(alloc, &netlist, &spec)),
+        Err(Stop::Refused(refusal)) => put(out, refused(alloc, &refusal)),
+        Err(Stop::ReadFault) => Status::ReadFault,
+        Err(Stop::Memory) => Status::NoMemory,
     }
 }

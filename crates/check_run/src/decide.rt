@@ -1,5 +1,6 @@
 ghost use Rattle.std.specs.Prelude.{◌≡◌, ◌<◌, ◌≤◌, length, IfOk};
-ghost use Rattle.check_run.specs.Decided.{IsReported};
+ghost use Rattle.check_run.specs.Deciding.{verdict_at, verdict_of_limit};
+ghost use Rattle.check_run.specs.Verdicts.{IsReported};
 ghost use Rattle.cone_builder.specs.Sides.{AreSides};
 ghost use Rattle.diagram.specs.View.{AreAllP};
 ghost use Rattle.spec_lang.specs.WellFormed.{IsOver};
@@ -12,7 +13,7 @@ use kind_laws::Edge;
 use netlist::Netlist;
 use spec_lang::{EvalError, Spec};
 use std::alloc::{AllocError, Global};
-use word_base::{Assign, Levels, LevelsFault};
+use word_base::{Assign, Levels, LevelsFault, Weight};
 
 /// The levels of the inputs.
 fn levels_of(alloc: Global, spec: &Spec) -> Result<Levels, AllocError>
@@ -29,6 +30,31 @@ fn levels_of(alloc: Global, spec: &Spec) -> Result<Levels, AllocError>
         Ok(levels) => Ok(levels),
         Err(LevelsFault::TooMany) => unreachable!(),
         Err(LevelsFault::Memory) => Err(AllocError),
+    }
+}
+
+/// The verdict where the sides differ first at this assignment, from both values there.
+fn verdict_at(
+    at: Assign,
+    values: Result<(Weight, Weight), EvalError>,
+) -> Result<Verdict, AllocError>
+    ensures { result ≡ verdict_at at values }
+{
+    match values {
+        Ok((left, right)) => Ok(Verdict::Different { left, right, at }),
+        Err(EvalError::Overflow) => Ok(Verdict::Overflow),
+        Err(EvalError::Memory) => Err(AllocError),
+    }
+}
+
+/// The verdict where the sides were not built.
+fn verdict_of_limit(error: BuildError) -> Result<Verdict, AllocError>
+    ensures { result ≡ verdict_of_limit error }
+{
+    match error {
+        BuildError::Overflow => Ok(Verdict::Overflow),
+        BuildError::Full => Ok(Verdict::Full),
+        BuildError::Memory => Err(AllocError),
     }
 }
 
@@ -53,15 +79,8 @@ fn compare(
     }
     let mut at = Assign::new(alloc, builder.levels())?;
     first_difference(builder, 0, left, right, &mut at);
-    match spec.evaluate(check, netlist, &at) {
-        Ok(values) => Ok(Verdict::Different {
-            left: values.0,
-            right: values.1,
-            at,
-        }),
-        Err(EvalError::Overflow) => Ok(Verdict::Overflow),
-        Err(EvalError::Memory) => Err(AllocError),
-    }
+    let values = spec.evaluate(check, netlist, &at);
+    verdict_at(at, values)
 }
 
 /// What is answered to a check, of which every level is of positive Davio.
@@ -81,8 +100,6 @@ pub(crate) fn decide(
     let mut builder = Builder::create(alloc, levels)?;
     match build_one(alloc, &mut builder, netlist, spec, check) {
         Ok((left, right)) => compare(alloc, &builder, netlist, spec, check, &left, &right),
-        Err(BuildError::Overflow) => Ok(Verdict::Overflow),
-        Err(BuildError::Full) => Ok(Verdict::Full),
-        Err(BuildError::Memory) => Err(AllocError),
+        Err(error) => verdict_of_limit(error),
     }
 }

@@ -1,6 +1,7 @@
 //! The run: from the words of a command to the report.
 //!
-//! `run` reads the words, fetches and reads both files, decides the check, and puts out its line.
+//! `run` reads the words, fetches and reads both files, decides the check, and puts out its line. What it promises is
+//! one definition, `IsRun` in `specs/Run`.
 #![tactic(auto)]
 
 mod command;

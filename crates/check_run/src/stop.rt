@@ -1,12 +1,14 @@
 ghost use Rattle.std.specs.Prelude.{◌≡◌};
 
+use bench_reader::BenchError;
+use outside::FetchError;
 use report::Refusal;
 use std::alloc::AllocError;
 
 /// Why nothing is decided.
 #[derive(Debug, Drop)]
 pub(crate) enum Stop {
-    /// The words or a file are not taken.
+    /// The words or a file are refused.
     Refused(Refusal),
     /// A file could not be read.
     ReadFault,
@@ -14,31 +16,40 @@ pub(crate) enum Stop {
     Memory,
 }
 
-impl From<AllocError> for Stop {
-    ghost use Rattle.check_run.specs.declared.stop.Stop.TheVariants.{Memory};
+impl Stop {
+    ghost use Rattle.check_run.specs.Loading.{stop_of_fetch};
 
-    ghost from_gives = { λ _ e. e ≡ Memory };
-
-    fn from(_: AllocError) -> Stop {
-        Stop::Memory
+    /// Why a file stops a run that was not fetched. One that is too long has this refusal.
+    pub(crate) fn of_fetch(error: FetchError, too_long: Refusal) -> Stop
+        ensures { result ≡ stop_of_fetch too_long error }
+    {
+        match error {
+            FetchError::Failed => Stop::ReadFault,
+            FetchError::TooLong => Stop::Refused(too_long),
+            FetchError::Memory => Stop::Memory,
+        }
     }
 }
 
-/// Why nothing is put out.
-#[derive(Debug, Drop)]
-pub(crate) enum Halt {
-    /// A file could not be read.
-    ReadFault,
-    /// Want of memory.
-    Memory,
+impl From<BenchError> for Stop {
+    ghost use Rattle.check_run.specs.Loading.{stop_of_netlist};
+
+    ghost from_gives = { λ error stop. stop ≡ stop_of_netlist error };
+
+    fn from(error: BenchError) -> Stop {
+        match error {
+            BenchError::Fault(fault) => Stop::Refused(Refusal::Netlist(fault)),
+            BenchError::Memory => Stop::Memory,
+        }
+    }
 }
 
-impl From<AllocError> for Halt {
-    ghost use Rattle.check_run.specs.declared.stop.Halt.TheVariants.{Memory};
+impl From<AllocError> for Stop {
+    ghost use Rattle.check_run.specs.declared.stop.Stop.TheVariants.{Memory};
 
-    ghost from_gives = { λ _ e. e ≡ Memory };
+    ghost from_gives = { λ _ stop. stop ≡ Memory };
 
-    fn from(_: AllocError) -> Halt {
-        Halt::Memory
+    fn from(_: AllocError) -> Stop {
+        Stop::Memory
     }
 }

@@ -31,6 +31,10 @@ const NOR_SPEC: &str = "word a = a\nword b = b\nword z = z\ncheck z + a + b == 1
 
 const PAIR: &str = "INPUT(a)\nINPUT(b)\n";
 
+/// The sides' tables have weights alone, and their values are none where they differ first.
+const GREAT_SPEC: &str =
+    "word a = a\nword b = b\ncheck 170141183460469231731687303715884105727*a + 170141183460469231731687303715884105727*b == 170141183460469231731687303715884105727*a + 170141183460469231731687303715884105727*b + a*b\n";
+
 /// A shelf with a netlist and a specification.
 fn shelf_of(alloc: Global, netlist: &[u8], spec: &[u8]) -> Result<MemoryShelf, AllocError> {
     let mut shelf = MemoryShelf::new(alloc);
@@ -94,6 +98,7 @@ fn checks_are_decided(rt: HostRuntime) -> Result<(), Fail> {
             3,
             "check 1 overflow\n",
         ),
+        (PAIR, GREAT_SPEC, 3, "check 1 overflow\n"),
     ];
     for (netlist, spec, status, line) in rows {
         let answer = of_texts(rt.alloc(), netlist, spec, line)?;
@@ -105,16 +110,26 @@ fn checks_are_decided(rt: HostRuntime) -> Result<(), Fail> {
 #[test]
 fn what_is_not_taken_is_refused(rt: HostRuntime) -> Result<(), Fail> {
     let rows = [
-        (
-            "INPUT(a)\nOUTPUT(z)\nz = DFF(a)\n",
-            "refused netlist 3 sequential\n",
-        ),
-        ("INPUT(a)\nx = AND(x, a)\n", "refused netlist 2 cycle\n"),
         ("INPUT(a)\nz = AND(a", "refused netlist 2 bad-line\n"),
+        (
+            "INPUT(a)\nz = MAJ(a, a, a)\n",
+            "refused netlist 2 unknown-gate\n",
+        ),
+        ("INPUT(a)\nz = NOT(a, a)\n", "refused netlist 2 bad-arity\n"),
         (
             "INPUT(a)\nx = NOT(q)\na = NOT(x)\n",
             "refused netlist 3 duplicate-net\n",
         ),
+        (
+            "INPUT(a)\nz = NOT(q)\n",
+            "refused netlist 2 undefined-net\n",
+        ),
+        ("INPUT(a)\nx = AND(x, a)\n", "refused netlist 2 cycle\n"),
+        (
+            "INPUT(a)\nOUTPUT(z)\nz = DFF(a)\n",
+            "refused netlist 3 sequential\n",
+        ),
+        ("INPUT(\u{e9})\n", "refused netlist 1 not-ascii\n"),
         (HALF, "refused spec unbuilt\n"),
     ];
     for (netlist, line) in rows {
@@ -122,13 +137,30 @@ fn what_is_not_taken_is_refused(rt: HostRuntime) -> Result<(), Fail> {
         assert_eq!(rt; answer, (2, true), "{line}");
     }
     let mut shelf = shelf_of(rt.alloc(), HALF.as_bytes(), HALF_SPEC.as_bytes())?;
-    let answer = outcome(
-        rt.alloc(),
-        &["check"],
-        &mut shelf,
-        1000,
-        "refused words unbuilt\n",
-    )?;
+    let line = "refused words unbuilt\n";
+    let answer = outcome(rt.alloc(), &["check"], &mut shelf, 1000, line)?;
+    assert_eq!(rt; answer, (2, true));
+    Ok(())
+}
+
+/// An input and a chain of inverters.
+fn inverters(alloc: Global, count: u16) -> Result<String, AllocError> {
+    let mut text = String::from_str(alloc, "INPUT(n0)\n")?;
+    for number in 0..count {
+        let next = u32::from(number) + 1;
+        write!(text, "n{next} = NOT(n{number})\n")?;
+    }
+    Ok(text)
+}
+
+#[test]
+fn a_netlist_has_at_most_4096_gates(rt: HostRuntime) -> Result<(), Fail> {
+    let spec = "word a = n0\nword z = n4096\ncheck z == a\n";
+    let most = inverters(rt.alloc(), 4096)?;
+    let answer = of_texts(rt.alloc(), &most, spec, "check 1 equal\n")?;
+    assert_eq!(rt; answer, (0, true));
+    let more = inverters(rt.alloc(), 4097)?;
+    let answer = of_texts(rt.alloc(), &more, spec, "refused netlist 4098 too-large\n")?;
     assert_eq!(rt; answer, (2, true));
     Ok(())
 }
@@ -158,34 +190,5 @@ fn faults_outside_are_told(rt: HostRuntime) -> Result<(), Fail> {
     assert_eq!(rt; answer, (4, true), "an absent file");
     let answer = outcome(rt.alloc(), WORDS, &mut shelf, 5, "check")?;
     assert_eq!(rt; answer, (5, true), "a sink of five bytes");
-    Ok(())
-}
-
-#[test]
-fn a_file_is_read_only_in_its_turn(rt: HostRuntime) -> Result<(), Fail> {
-    let mut shelf = shelf_of(rt.alloc(), HALF.as_bytes(), HALF_SPEC.as_bytes())?;
-    shelf.fail(3)?;
-    let answer = outcome(rt.alloc(), WORDS, &mut shelf, 1000, "check 1 equal\n")?;
-    assert_eq!(rt; answer, (0, true), "a third fetch, which no run makes");
-
-    let mut shelf = shelf_of(rt.alloc(), b"INPUT(a)\nz = AND(a", HALF_SPEC.as_bytes())?;
-    let line = "refused netlist 2 bad-line\n";
-    let absent = ["check", "--kind", "hdd", "n", "absent"];
-    let answer = outcome(rt.alloc(), &absent, &mut shelf, 1000, line)?;
-    assert_eq!(rt;
-        answer,
-        (2, true),
-        "the netlist is refused before the specification is read"
-    );
-    shelf.fail(3)?;
-    let answer = outcome(rt.alloc(), WORDS, &mut shelf, 1000, line)?;
-    assert_eq!(rt;
-        answer,
-        (2, true),
-        "the second fetch is the second run's first"
-    );
-    shelf.file("n", HALF.as_bytes())?;
-    let answer = outcome(rt.alloc(), WORDS, &mut shelf, 1000, "")?;
-    assert_eq!(rt; answer, (4, true), "the third is the third run's first");
     Ok(())
 }

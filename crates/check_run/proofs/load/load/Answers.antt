@@ -1,14 +1,13 @@
-use Rattle.std.proofs.Common.{map, List, ℕ, Bor}
-use Rattle.check_run.proofs.LoadLaws.{netlist_stopped, spec_stopped}
+use Rattle.check_run.specs.Outside.{shelf_seen, texts}
+use Rattle.check_run.proofs.LoadLaws.{spec_stops}
 use Rattle.check_run.proofs.load.load.Goals as goal
 
-pub returns-in-Err-clause-stopped : goal.returns-in-Err-clause-stopped
-returns-in-Err-clause-stopped g c =
-    netlist_stopped (map (λ (w : Bor (List ℕ)). w.now) c.args.words.now) (g.F.Shelf.files c.args.shelf.now) (record { netlist = c.in-Some.names.0.now; spec = c.in-Some.names.1.now }) (g.F.Shelf.faults c.args.shelf.now)
-    (g.F.Shelf.faults c.load_netlist.new.shelf) c.in-Err.stop c.in-Some.ensures.some c.in-Err.ensures.stop
-
-pub returns-in-Err-load_spec-clause-stopped : goal.returns-in-Err-load_spec-clause-stopped
-returns-in-Err-load_spec-clause-stopped g c =
-    spec_stopped (map (λ (w : Bor (List ℕ)). w.now) c.args.words.now) (g.F.Shelf.files c.args.shelf.now) (g.F.Shelf.files c.load_netlist.new.shelf) (record { netlist = c.in-Some.names.0.now; spec = c.in-Some.names.1.now })
-    c.in-Ok.netlist (g.F.Shelf.faults c.args.shelf.now) (g.F.Shelf.faults c.load_netlist.new.shelf) (g.F.Shelf.faults c.load_spec.new.shelf) c.in-Err-load_spec.stop
-    c.in-Some.ensures.some c.in-Ok.ensures.files c.in-Ok.ensures.later c.in-Ok.ensures.says c.in-Err-load_spec.ensures.stop
+pub returns-in_err-spec-clause-loads : goal.returns-in_err-spec-clause-loads
+returns-in_err-spec-clause-loads g c =
+    spec_stops (texts c.args.words.now) (shelf_seen g.F.Shelf.files g.F.Shelf.fetches g.F.Shelf.faults c.args.shelf.now)
+    (shelf_seen g.F.Shelf.files g.F.Shelf.fetches g.F.Shelf.faults c.load_netlist.new.shelf)
+    (shelf_seen g.F.Shelf.files g.F.Shelf.fetches g.F.Shelf.faults c.load_spec.new.shelf)
+    (record { netlist = c.in-Some.names.0.now; spec = c.in-Some.names.1.now }) c.in_ok-netlist.netlist c.in_err-spec.field-0.0 c.from_residual-in_err-spec.result
+    c.in-Some.ensures.some
+    (record { files = c.in_ok-netlist.ensures.files; fetches = c.in_ok-netlist.ensures.once; faults = c.in_ok-netlist.ensures.netlist.1 })
+    c.in_ok-netlist.ensures.netlist.0 c.in_err-spec.ensures.once c.in_err-spec.ensures.spec c.from_residual-in_err-spec.ensures.1

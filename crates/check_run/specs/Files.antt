@@ -1,0 +1,92 @@
+-- What the two files say, and why one is refused.
+use Rattle.std.specs.Prelude.{◌≡◌, ◌⊎◌, ℕ, ◌≤◌, List, length, codes, Option, Some, None, Ok, Err, slice_get, if◌then◌else◌, refl}
+use Rattle.std.specs.Str.{bytes_eq}
+use Rattle.std.proofs.Common.{inr, lit≤}
+use Rattle.netlist.specs.Circuit.{Circuit}
+use Rattle.netlist.specs.Circuits.{half}
+use Rattle.bench_reader.specs.Faults.{fault}
+use Rattle.bench_reader.specs.declared.fault.BenchCause.TheVariants.{Cycle}
+use Rattle.bench_reader.specs.Reading.{reading}
+use Rattle.bench_reader.specs.declared.fault.BenchFault.{BenchFault}
+use Rattle.spec_lang.specs.Specification.{Check, Specification, half_adder, half_adder_check}
+use Rattle.first_form.specs.FirstForm.{first_form}
+use Rattle.word_base.specs.declared.kind_name.KindName.TheVariants.{Hdd}
+use Rattle.outside.specs.Shelf.{told, Holds, IsLonger, IsWhole}
+use Rattle.report.specs.declared.refusal.Refusal.{Refusal}
+use Rattle.report.specs.declared.refusal.Refusal.TheVariants.{NetlistTooLong, Netlist, SpecTooLong, Spec}
+use Rattle.check_run.specs.declared.load.TheConstants.{MOST_BYTES}
+use Rattle.check_run.specs.Outside.{Files}
+use Rattle.check_run.specs.Words.{Names, check_n_s, n_and_s, names_of}
+
+-- these bytes are the file of this name, where the shelf tells its files, and they are not too many
+pub record IsText (files : Files) (name bytes : List ℕ) : Type 0 where
+  pub whole : IsWhole (told files name) bytes
+  pub within : length bytes ≤ MOST_BYTES
+
+-- the file says this circuit
+abbrev pub SaysNetlist : Files → List ℕ → Circuit → Type 0
+SaysNetlist files name c = (text : List ℕ) × IsText files name text × (reading text ≡ Ok c)
+
+-- the file says this specification over the circuit
+abbrev pub SaysSpec : Files → List ℕ → Circuit → Specification → Type 0
+SaysSpec files name c s = (text : List ℕ) × IsText files name text × (first_form c Hdd text ≡ Some s)
+
+-- the netlist's file is refused: it is too long, or has a fault
+abbrev pub RefusesNetlist : Files → List ℕ → Refusal → Type 0
+RefusesNetlist files name refusal =
+    (refusal ≡ NetlistTooLong) × IsLonger (told files name) MOST_BYTES
+    ⊎ ((text : List ℕ) × (f : BenchFault) × IsText files name text × (reading text ≡ Err f) × (refusal ≡ Netlist f))
+
+-- the specification's file is refused over the circuit: it is too long, or says no specification
+abbrev pub RefusesSpec : Files → List ℕ → Circuit → Refusal → Type 0
+RefusesSpec files name c refusal =
+    (refusal ≡ SpecTooLong) × IsLonger (told files name) MOST_BYTES
+    ⊎ ((text : List ℕ) × IsText files name text × (first_form c Hdd text ≡ None) × (refusal ≡ Spec))
+
+-- The shelf tells both files that the words name, and both are taken: the netlist reads as the circuit, and the
+-- specification's text says the specification, with this check
+pub record Accepts (words : List (List ℕ)) (files : Files) (c : Circuit) (s : Specification) (check : Check) : Type 0 where
+  pub names : Names
+  pub named : names_of words ≡ Some names
+  pub netlist_text : List ℕ
+  pub netlist : Holds files names.netlist netlist_text
+  pub netlist_within : length netlist_text ≤ MOST_BYTES
+  pub reads : reading netlist_text ≡ Ok c
+  pub spec_text : List ℕ
+  pub spec : Holds files names.spec spec_text
+  pub spec_within : length spec_text ≤ MOST_BYTES
+  pub says : first_form c Hdd spec_text ≡ Some s
+  pub check_is : slice_get s.checks 0 ≡ Some check
+
+-- the half adder's two files
+abbrev pub half_text : List ℕ
+half_text = codes "INPUT(a)\nINPUT(b)\nOUTPUT(s)\nOUTPUT(c)\ns = XOR(a, b)\nc = AND(a, b)\n"
+
+abbrev pub half_spec : List ℕ
+half_spec = codes "word a = a\nword b = b\nword s = s\nword c = c\ncheck s + 2*c == a + b\n"
+
+-- a shelf that tells a file "n", and one "s" where there is one
+abbrev pub two_files : List ℕ → Option (List ℕ) → Files
+two_files netlist spec =
+    Some (λ name. if bytes_eq name (codes "n") then Some netlist else (if bytes_eq name (codes "s") then spec else None))
+
+half-netlist : SaysNetlist (two_files half_text None) (codes "n") half
+half-netlist = (half_text, record { whole = refl; within = lit≤ tt }, refl)
+
+looped-refused : RefusesNetlist (two_files (codes "INPUT(a)\nx = AND(x, a)\n") None) (codes "n") (Netlist (fault 2 Cycle))
+looped-refused = inr (codes "INPUT(a)\nx = AND(x, a)\n", fault 2 Cycle, record { whole = refl; within = lit≤ tt }, refl, refl)
+
+half-accepted : Accepts check_n_s (two_files half_text (Some half_spec)) half half_adder half_adder_check
+half-accepted = record {
+  names = n_and_s;
+  named = refl;
+  netlist_text = half_text;
+  netlist = refl;
+  netlist_within = lit≤ tt;
+  reads = refl;
+  spec_text = half_spec;
+  spec = refl;
+  spec_within = lit≤ tt;
+  says = refl;
+  check_is = refl;
+}
