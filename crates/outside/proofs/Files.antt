@@ -16,9 +16,29 @@ use Rattle.std.specs.FinSet as set
 use Rattle.std.specs.Str.{bytes_eq}
 use Rattle.std.proofs.lemmas.Map.Text.{is_eq-slice_cmp, btree_map_updates_text, text_cmp}
 use Rattle.outside.specs.Count.{raised}
-use Rattle.outside.specs.MemoryShelf.{fails_next, after_fetch}
-use Rattle.outside.specs.ShelfInside.{by_bytes, named_files, shelf_state}
+use Rattle.outside.specs.MemoryShelf.{ShelfState, fails_next, after_fetch}
 use Rattle.outside.specs.declared.memory_shelf.MemoryShelf.TheInside.{Inside}
+
+-- ---- what the fields stand for
+
+-- an entry of the map, by the bytes of its name and of its file
+abbrev pub by_bytes : String Global × Vec ℕ Global → List ℕ × List ℕ
+by_bytes e = (string_bytes e.0, e.1.items)
+
+-- the files by their names
+abbrev pub named_files : tree.BTreeMap (String Global) (Vec ℕ Global) → map.FinMap (slice_cmp nat_cmp) (List ℕ)
+named_files m = map.from_entries (map by_bytes m.entries)
+
+-- the shelf as callers see it
+abbrev pub shelf_state : Inside → ShelfState
+shelf_state a = record {
+  files = named_files a.files;
+  failing = set.from_list a.failing.keys;
+  fetches = a.fetches;
+  faults = a.faults;
+}
+
+-- ---- files
 
 -- the bytes of a file
 abbrev pub bytes_of : Vec ℕ Global → List ℕ
@@ -56,6 +76,8 @@ named_files-insert m n name file changed =
     ∙ ap (λ b. cond b (Some file.items) (option_map bytes_of old)) ((eq_by_cmp_equiv nat_list_cmp_total).symm (string_bytes name) q)
     ∙ ap (cond tied (Some file.items)) (sym (get-named_files m q))
     ∙ sym (map.get-insert nat_list_cmp_total (named_files m) (string_bytes name) file.items q))
+
+-- ---- failing fetches
 
 cond-true : (b c : Bool) → cond b true c ≡ (b || c)
 cond-true true c = refl

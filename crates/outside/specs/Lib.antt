@@ -2,7 +2,8 @@ pub mod Count
 pub mod FileShelf
 pub mod MemoryShelf
 pub mod MemorySink
+pub mod Opener
 pub mod Shelf
-pub mod ShelfInside
 pub mod Sink
+pub mod StreamSink
 pub mod Text

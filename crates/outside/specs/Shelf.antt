@@ -1,6 +1,5 @@
 -- What a fetch gives. A shelf's files are the bytes of each name, where there are any, or `None` where the shelf does not tell.
 use Rattle.std.specs.Prelude.{◌≡◌, ℕ, ◌≤◌, ◌<◌, ◌⊎◌, Bool, true, false, List, ◌++◌, length, Option, Some, None, Result, Ok, Err, codes, refl}
-use Rattle.std.specs.Option.{option_map}
 use Rattle.std.proofs.Common.{lit<, lit≤, inl, inr}
 use Rattle.outside.specs.Count.{raised, Rose}
 use Rattle.outside.specs.declared.shelf.FetchError.{FetchError}
@@ -59,13 +58,6 @@ IsLonger (Some (Some file)) limit = limit < length file
 
 longer-ab : IsLonger (Some (Some (codes "ab"))) 1
 longer-ab = lit< tt
-
--- what a reader of a file tells of it: the bytes that it has left
-abbrev pub file_left : Option (List ℕ) → Option (Option (List ℕ))
-file_left = option_map Some
-
-file_left-ab : file_left (Some (codes "ab")) ≡ Some (Some (codes "ab"))
-file_left-ab = refl
 
 -- the fetch answered `Failed`
 abbrev pub is_failed : {T : Type 0} → Result T FetchError → Bool

@@ -1,33 +1,31 @@
-ghost use Rattle.std.specs.Prelude.{◌≡◌, ℕ, List, ◌++◌, None, OnOk, OnErr, IsErrOf};
-ghost use Rattle.outside.specs.FileShelf.{Counts, after_fetch};
-ghost use Rattle.outside.specs.Shelf.{AppendsFile, IsLonger, file_left, is_failed};
+ghost use Rattle.std.specs.Prelude.{◌≡◌, ℕ, List, Option, OnOk, OnErr, IsErrOf};
+ghost use Rattle.outside.specs.FileShelf.{ShelfOver, after_fetch};
+ghost use Rattle.outside.specs.Shelf.{told, Lacks, AppendsFile, IsLonger, is_failed};
 
-use crate::{FetchError, Shelf};
-use std::fs;
-use std::io::{ErrorKind, Read};
+use crate::reading::read_named;
+use crate::{FetchError, Opener, Shelf};
 use std::marker::Model;
-use std::rt::Files;
 
-/// The files of the system as a shelf. It does not tell its files.
+/// The files of the system as a shelf. It tells what the system tells of them.
 #[derive(Drop)]
-pub struct FileShelf<R> {
-    system: R,
+pub struct FileShelf<S> {
+    system: S,
     fetches: u64,
     faults: u64,
 }
 
-impl<R> Model for FileShelf<R> {
-    ghost use Rattle.outside.specs.FileShelf.{Counts};
+impl<S> Model for FileShelf<S> {
+    ghost use Rattle.outside.specs.FileShelf.{ShelfOver};
 
-    ghost Value = { Counts };
+    ghost Value = { ShelfOver S };
 
-    ghost view = { λ s. record { fetches = s.fetches; faults = s.faults } };
+    ghost view = { λ s. record { system = s.system; fetches = s.fetches; faults = s.faults } };
 }
 
-impl<R: Files> FileShelf<R> {
-    /// A shelf that has met no fault.
-    pub fn new(system: R) -> FileShelf<R>
-        ensures { result ≡ record { fetches = 0; faults = 0 } }
+impl<S: Opener> FileShelf<S> {
+    /// A shelf of which nothing was fetched yet.
+    pub fn new(system: S) -> FileShelf<S>
+        ensures { result ≡ record { system = system; fetches = 0; faults = 0 } }
     {
         FileShelf {
             system,
@@ -37,64 +35,27 @@ impl<R: Files> FileShelf<R> {
     }
 }
 
-impl<R: Files> Shelf for FileShelf<R> {
-    ghost files = { λ _. None };
+impl<S: Opener> Shelf for FileShelf<S> {
+    ghost files = { λ s. S.files s.system };
 
     ghost fetches = { λ s. s.fetches };
 
     ghost faults = { λ s. s.faults };
 
     fn fetch(&mut self, name: &str, limit: usize, into: &mut Vec<u8>) -> Result<(), FetchError>
-        ensures ok { OnOk result (AppendsFile None limit into.old.items into.new.items) }
+        ensures ok { OnOk result (AppendsFile (told (S.files self.old.system) name.now) limit into.old.items into.new.items) }
         ensures err { OnErr result (into.new.items ≡ into.old.items) }
+        ensures absent { Lacks (S.files self.old.system) name.now → IsErrOf result FetchError.Failed }
+        ensures too_long { IsErrOf result FetchError.TooLong → IsLonger (told (S.files self.old.system) name.now) limit }
 
         // It counts a fault exactly where it answers `Failed`.
         ensures after { self.new ≡ after_fetch (is_failed result) self.old }
     {
+        let fetched = read_named(&self.system, name, limit, into);
         self.fetches = self.fetches.saturating_add(1);
-        let start = into.len();
-        let fetched = match fs::open(&self.system, name) {
-            Ok(mut file) => read_whole(&mut file, limit, into),
-            Err(_) => Err(FetchError::Failed),
-        };
-        if fetched.is_err() {
-            into.truncate(start);
-        }
         if fetched == Err(FetchError::Failed) {
             self.faults = self.faults.saturating_add(1);
         }
         fetched
     }
-}
-
-// Appends what is left of the file, piece by piece. After an `Err` a part of it may stand there.
-pub(crate) fn read_whole<F: Read>(
-    file: &mut F,
-    limit: usize,
-    into: &mut Vec<u8>,
-) -> Result<(), FetchError>
-    ensures ok { OnOk result (AppendsFile (file_left (F.remaining file.old)) limit into.old.items into.new.items) }
-    ensures err { OnErr result ((bytes : List ℕ) × (into.new.items ≡ into.old.items ++ bytes)) }
-    ensures too_long { IsErrOf result FetchError.TooLong → IsLonger (file_left (F.remaining file.old)) limit }
-{
-    let mut left = limit;
-    let mut piece = [0u8; 4096];
-    for _ in 0..u64::MAX {
-        match file.read(&mut piece) {
-            Ok(0) => return Ok(()),
-            Ok(count) => {
-                if count > left {
-                    return Err(FetchError::TooLong);
-                }
-                into.extend_from_slice(&piece[..count])?;
-                left -= count;
-            }
-            Err(e) => {
-                if e.kind() != ErrorKind::Interrupted {
-                    return Err(FetchError::Failed);
-                }
-            }
-        }
-    }
-    Err(FetchError::Failed)
 }

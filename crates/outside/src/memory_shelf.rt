@@ -22,15 +22,22 @@ pub struct MemoryShelf {
 }
 
 impl Model for MemoryShelf {
+    ghost use Rattle.std.specs.Prelude.{map};
+    ghost use Rattle.std.specs.String.{string_bytes};
+    ghost use Rattle.std.specs.FinMap as map;
+    ghost use Rattle.std.specs.FinSet as set;
     ghost use Rattle.outside.specs.MemoryShelf.{ShelfState, shelf_code};
 
     ghost Value = { ShelfState };
 
     ghost coded = { shelf_code };
 
-    ghost use Rattle.outside.specs.ShelfInside.{shelf_state};
-
-    ghost view = { shelf_state };
+    ghost view = { λ s. record {
+        files = map.from_entries (map (λ e. (string_bytes e.0, e.1.items)) s.files.entries);
+        failing = set.from_list s.failing.keys;
+        fetches = s.fetches;
+        faults = s.faults;
+    } };
 }
 
 impl MemoryShelf {

@@ -1,70 +1,48 @@
-ghost use Rattle.std.specs.Prelude.{◌≡◌, None, OnOk, OnErr, is_err};
+ghost use Rattle.std.specs.Prelude.{◌≡◌, OnOk, OnErr, is_err};
 ghost use Rattle.std.specs.Io.KnownBytes.{Appends};
 ghost use Rattle.outside.specs.Count.{counted};
 ghost use Rattle.outside.specs.Sink.{AppendsPrefix};
+ghost use Rattle.outside.specs.StreamSink.{SinkOver};
 
+use crate::writing::write_whole;
 use crate::{PutFailed, Sink};
-use std::io;
-use std::io::{ErrorKind, Write};
+use std::io::Write;
 use std::marker::Model;
 
-/// Standard output as a sink. It does not tell what was written.
+/// A writer, as standard output, as a sink. It tells what the writer tells of its bytes.
 #[derive(Drop)]
-pub struct StreamSink<P> {
-    output: P,
+pub struct StreamSink<W> {
+    output: W,
     faults: u64,
 }
 
-impl<P> Model for StreamSink<P> {
-    ghost use Rattle.std.specs.Prelude.{ℕ};
+impl<W> Model for StreamSink<W> {
+    ghost use Rattle.outside.specs.StreamSink.{SinkOver};
 
-    ghost Value = { ℕ };
+    ghost Value = { SinkOver W };
 
-    ghost view = { λ s. s.faults };
+    ghost view = { λ s. record { output = s.output; faults = s.faults } };
 }
 
-impl<P: Print> StreamSink<P> {
+impl<W: Write> StreamSink<W> {
     /// A sink that has met no fault.
-    pub fn new(output: P) -> StreamSink<P>
-        ensures { result ≡ 0 }
+    pub fn new(output: W) -> StreamSink<W>
+        ensures { result ≡ record { output = output; faults = 0 } }
     {
         StreamSink { output, faults: 0 }
     }
 }
 
-impl<P: Print> Sink for StreamSink<P> {
-    ghost written = { λ _. None };
+impl<W: Write> Sink for StreamSink<W> {
+    ghost written = { λ s. W.contents s.output };
 
-    ghost faults = { λ s. s };
+    ghost faults = { λ s. s.faults };
 
     fn put(&mut self, bytes: &[u8]) -> Result<(), PutFailed> {
-        let put = write_whole(&mut io::writer(&self.output), bytes);
+        let put = write_whole(&mut self.output, bytes);
         if put.is_err() {
             self.faults = self.faults.saturating_add(1);
         }
         put
     }
-}
-
-// Writes the bytes piece by piece: all of them, or those in front of a fault.
-pub(crate) fn write_whole<W: Write>(output: &mut W, bytes: &[u8]) -> Result<(), PutFailed>
-    ensures ok { OnOk result (Appends (W.contents output.old) (W.contents output.new) bytes.now) }
-    ensures err { OnErr result (AppendsPrefix (W.contents output.old) (W.contents output.new) bytes.now) }
-{
-    let mut rest = bytes;
-    for _ in 0..u64::MAX {
-        if rest.is_empty() {
-            return Ok(());
-        }
-        match output.write(rest) {
-            Ok(0) => return Err(PutFailed),
-            Ok(taken) => rest = &rest[taken..],
-            Err(e) => {
-                if e.kind() != ErrorKind::Interrupted {
-                    return Err(PutFailed);
-                }
-            }
-        }
-    }
-    Err(PutFailed)
 }

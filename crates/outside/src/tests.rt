@@ -1,8 +1,6 @@
-ghost use Rattle.std.specs.Prelude.{◌≡◌, ◌≤◌, ◌++◌, List, ℕ, OnOk, IfOk};
+ghost use Rattle.std.specs.Prelude.{◌≡◌, ◌≤◌, ◌++◌, List, ℕ, None, OnOk, IfOk};
 ghost use Rattle.outside.specs.Shelf.{Holds};
 
-use super::file_shelf::read_whole;
-use super::stream_sink::write_whole;
 use super::*;
 use std::alloc::{AllocError, Global};
 use std::io::{ErrorKind, Read, Write};
@@ -23,11 +21,6 @@ fn fetch_into<S: Shelf>(
 
 fn put_into<S: Sink>(sink: &mut S, bytes: &[u8]) -> Result<(), PutFailed> {
     sink.put(bytes)
-}
-
-fn pass<G: Gate>(gate: &G, worker: u32) {
-    gate.start(worker);
-    gate.took(worker);
 }
 
 // How many bytes the calls are to take in turn, or how they fail. Behind these each takes all that it can.
@@ -64,6 +57,29 @@ impl<'a> Read for PiecedFile<'a> {
         buf[..count].copy_from_slice(&self.left[..count]);
         self.left = &self.left[count..];
         Ok(count)
+    }
+}
+
+// One file, under every name but the empty one.
+#[derive(Drop)]
+struct PiecedFiles<'a> {
+    bytes: &'a [u8],
+    steps: &'a [Result<usize, ErrorKind>],
+}
+
+impl<'a> Opener for PiecedFiles<'a> {
+    type File = PiecedFile<'a>;
+
+    ghost files = { λ _. None };
+
+    fn open(&self, name: &str) -> io::Result<PiecedFile<'a>> {
+        if name.is_empty() {
+            return Err(io::Error::from(ErrorKind::NotFound));
+        }
+        Ok(PiecedFile {
+            left: self.bytes,
+            pieces: Pieces { steps: self.steps },
+        })
     }
 }
 
@@ -145,19 +161,19 @@ fn files_are_fetched(rt: HostRuntime) -> Result<(), Fail> {
 }
 
 #[test]
-fn a_file_of_three_pieces_is_fetched(rt: HostRuntime) -> Result<(), Fail> {
-    let bytes = numbered(rt.alloc(), 10_000)?;
+fn a_long_file_is_fetched(rt: HostRuntime) -> Result<(), Fail> {
+    let bytes = numbered(rt.alloc(), 70_000)?;
     fs::write(&rt, "long.bin", bytes.as_slice())?;
     let mut shelf = FileShelf::new(rt);
     let mut into = vec![in rt.alloc(); b'>']?;
-    let cut = fetch_into(&mut shelf, "long.bin", 9_999, &mut into);
+    let cut = fetch_into(&mut shelf, "long.bin", 69_999, &mut into);
     assert_eq!(rt;
         (cut, into.as_slice()),
         (Err(FetchError::TooLong), b">".as_slice())
     );
-    let whole = fetch_into(&mut shelf, "long.bin", 10_000, &mut into);
+    let whole = fetch_into(&mut shelf, "long.bin", 70_000, &mut into);
     fs::remove_file(&rt, "long.bin")?;
-    assert_eq!(rt; (whole, into.len()), (Ok(()), 10_001));
+    assert_eq!(rt; (whole, into.len()), (Ok(()), 70_001));
     assert_eq!(rt; &into.as_slice()[1..], bytes.as_slice());
     Ok(())
 }
@@ -165,58 +181,61 @@ fn a_file_of_three_pieces_is_fetched(rt: HostRuntime) -> Result<(), Fail> {
 #[test]
 fn a_file_is_read_piece_by_piece(rt: HostRuntime) -> Result<(), Fail> {
     let bytes = numbered(rt.alloc(), 8_200)?;
-    let steps = [Ok(1), Err(ErrorKind::Interrupted), Ok(4_096), Ok(3)];
+    let single = [Ok(1); 20];
+    let uneven = [Ok(1), Err(ErrorKind::Interrupted), Ok(4_096), Ok(3)];
     let fault = [Ok(5), Err(ErrorKind::BrokenPipe)];
     let reads = [
-        (steps.as_slice(), 8_200, Ok(())),
-        (steps.as_slice(), 8_199, Err(FetchError::TooLong)),
+        (single.as_slice(), 8_200, Ok(())),
+        (uneven.as_slice(), 8_200, Ok(())),
+        (uneven.as_slice(), 8_199, Err(FetchError::TooLong)),
         (fault.as_slice(), 8_200, Err(FetchError::Failed)),
     ];
     for (steps, limit, want) in reads {
         let mut into = Vec::new(rt.alloc());
-        let mut file = PiecedFile {
-            left: bytes.as_slice(),
-            pieces: Pieces { steps },
-        };
-        let answer = read_whole(&mut file, limit, &mut into);
+        let mut shelf = FileShelf::new(PiecedFiles {
+            bytes: bytes.as_slice(),
+            steps,
+        });
+        let absent = fetch_into(&mut shelf, "", limit, &mut into);
+        assert_eq!(rt; absent, Err(FetchError::Failed));
+        let answer = fetch_into(&mut shelf, "file", limit, &mut into);
         assert_eq!(rt; answer, want, "within {limit}");
-        if answer.is_ok() {
-            assert_eq!(rt; into.as_slice(), bytes.as_slice());
-        }
+        let whole = if answer.is_ok() {
+            bytes.as_slice()
+        } else {
+            &[]
+        };
+        assert_eq!(rt; into.as_slice(), whole);
     }
     Ok(())
 }
 
 #[test]
 fn an_output_is_written_piece_by_piece(rt: HostRuntime) -> Result<(), Fail> {
-    let steps = [Ok(1), Err(ErrorKind::Interrupted), Ok(2)];
+    let single = [Ok(1); 20];
+    let uneven = [Ok(1), Err(ErrorKind::Interrupted), Ok(2)];
     let full = [Ok(3), Ok(0)];
     let fault = [Ok(2), Err(ErrorKind::BrokenPipe)];
     let writes = [
-        (steps.as_slice(), Ok(()), b"written".as_slice()),
-        (full.as_slice(), Err(PutFailed), b"wri".as_slice()),
-        (fault.as_slice(), Err(PutFailed), b"wr".as_slice()),
+        (single.as_slice(), Ok(()), 22),
+        (uneven.as_slice(), Ok(()), 22),
+        (full.as_slice(), Err(PutFailed), 3),
+        (fault.as_slice(), Err(PutFailed), 2),
     ];
+    let bytes = b"22 bytes to be written";
     for (steps, want, taken) in writes {
         let mut output = PiecedOutput {
             taken: Vec::new(rt.alloc()),
             pieces: Pieces { steps },
         };
-        let answer = write_whole(&mut output, b"written");
-        assert_eq!(rt; (answer, output.taken.as_slice()), (want, taken));
+        let answer = put_into(&mut StreamSink::new(&mut output), bytes);
+        assert_eq!(rt; (answer, output.taken.as_slice()), (want, &bytes[..taken]));
     }
     Ok(())
 }
 
 #[test]
 fn standard_output_takes_bytes(rt: HostRuntime) {
-    let mut sink = StreamSink::new(rt);
+    let mut sink = StreamSink::new(io::writer(&rt));
     assert_eq!(rt; put_into(&mut sink, b"written\n"), Ok(()));
-}
-
-#[test]
-fn an_open_gate_lets_pass(rt: HostRuntime) {
-    let gate = OpenGate;
-    pass(&gate, 3);
-    assert_eq!(rt; gate, OpenGate);
 }

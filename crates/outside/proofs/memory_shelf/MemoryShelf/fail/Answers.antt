@@ -2,8 +2,7 @@ use Rattle.std.proofs.Common.{◌∙◌, ap}
 use Rattle.std.specs.Ordering.{nat_cmp}
 use Rattle.std.specs.FinSet as set
 use Rattle.outside.specs.MemoryShelf.{ShelfState}
-use Rattle.outside.specs.ShelfInside.{shelf_state}
-use Rattle.outside.proofs.Files.{from_list-insert}
+use Rattle.outside.proofs.Files.{shelf_state, from_list-insert}
 use Rattle.outside.proofs.memory_shelf.MemoryShelf.fail.Goals as goal
 
 pub returns-clause-ok : goal.returns-clause-ok

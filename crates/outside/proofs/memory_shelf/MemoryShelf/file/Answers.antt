@@ -3,8 +3,7 @@ use Rattle.std.specs.Ordering.{nat_cmp}
 use Rattle.std.specs.Cmp.Lexicographic.{slice_cmp}
 use Rattle.std.specs.FinMap as map
 use Rattle.outside.specs.MemoryShelf.{ShelfState}
-use Rattle.outside.specs.ShelfInside.{shelf_state, named_files}
-use Rattle.outside.proofs.Files.{named_files-insert}
+use Rattle.outside.proofs.Files.{shelf_state, named_files, named_files-insert}
 use Rattle.outside.proofs.memory_shelf.MemoryShelf.file.Goals as goal
 
 pub returns-clause-ok : goal.returns-clause-ok

@@ -4,8 +4,8 @@ use Rattle.std.proofs.Math.Seq.{take-append_seam}
 use Rattle.std.specs.Io.KnownBytes.{Appends}
 use Rattle.std.proofs.KnownBytes.{Appends-trans, Appends-kept}
 use Rattle.outside.specs.Sink.{AppendsPrefix}
-use Rattle.outside.proofs.stream_sink.write_whole.Goals as goal
-use Rattle.outside.proofs.stream_sink.write_whole.Goals.{in-Ok, in-Err+else-ne}
+use Rattle.outside.proofs.writing.write_whole.Goals as goal
+use Rattle.outside.proofs.writing.write_whole.Goals.{in-Ok, in-Err+else-ne}
 
 -- what was written is the front of the bytes
 front-written : (old now : Option (List ℕ)) (bytes done rest : List ℕ) → bytes ≡ done ++ rest → Appends old now done → AppendsPrefix old now bytes

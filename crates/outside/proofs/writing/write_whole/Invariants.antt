@@ -1,6 +1,6 @@
 use Rattle.std.proofs.Common.{◌≡◌, ℕ, List, ◌++◌}
 use Rattle.std.specs.Io.KnownBytes.{Appends}
-use Rattle.outside.proofs.stream_sink.write_whole.Given as goal
+use Rattle.outside.proofs.writing.write_whole.Given as goal
 
 -- what is gone from the bytes was written
 abbrev pub invariant-loop : goal.invariant-loop

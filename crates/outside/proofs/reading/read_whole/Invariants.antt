@@ -1,6 +1,6 @@
 use Rattle.std.proofs.Common.{◌≡◌, ◌++◌, length, List, ℕ, ◌+◌}
 use Rattle.std.specs.Io.KnownBytes.{Consumes}
-use Rattle.outside.proofs.file_shelf.read_whole.Given as goal
+use Rattle.outside.proofs.reading.read_whole.Given as goal
 
 -- what was read so far was appended, and takes up what is no longer left of the limit
 abbrev pub invariant-loop : goal.invariant-loop
