@@ -1,0 +1,2 @@
+pub mod Interns
+pub mod StoreView
