@@ -2,8 +2,16 @@
 //!
 //! - `store`: the trait `Store`. Its contracts see a store as a `StoreView` (`specs/StoreView`);
 //!   `specs/Interns` says what a call of `intern` answers and leaves.
+//! - `path`: the hash of a body, and the bucket at which its path begins.
+//! - `probe`: the walk along the path of a body.
+//! - `solo`: `SoloStore`, the store of one thread.
 #![tactic(auto)]
 
+mod path;
+mod probe;
+mod solo;
 mod store;
 
+pub use path::start;
+pub use solo::{MAX_CELLS, SoloStore};
 pub use store::{Store, StoreFull};

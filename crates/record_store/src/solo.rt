@@ -1,0 +1,65 @@
+ghost use Rattle.std.specs.Prelude.{◌≡◌, ◌↔◌, ◌+◌, ◌<◌, ◌≤◌, [], ◌∷◌, ◌++◌, length, IfOk, IsTrue, Some};
+ghost use Rattle.record_store.specs.Interns.{Interns};
+ghost use Rattle.record_store.specs.Solo.{solo_view, IsSoloView};
+ghost use Rattle.record_store.specs.StoreView.{find_in, IsKnown, HasBody};
+
+use crate::probe::{PathEnd, probe};
+use crate::store::{Store, StoreFull};
+use std::alloc::{AllocError, Global};
+use std::marker::Model;
+
+/// How many bodies a `SoloStore` may hold at most.
+pub const MAX_CELLS: u32 = 1_048_576;
+
+/// The store of one thread: a hash table with open addressing.
+#[derive(Drop)]
+pub struct SoloStore {
+    /// 0, or the id of the body that stands here.
+    buckets: Vec<u32>,
+    /// In the order of their ids.
+    bodies: Vec<[u64; 8]>,
+    cells: u32,
+}
+
+impl Model for SoloStore {
+    ghost use Rattle.std.specs.Prelude.{vec_capacity};
+    ghost use Rattle.record_store.specs.Solo.{Solo};
+    ghost use Rattle.record_store.specs.SoloInside.{IsSound};
+
+    ghost Value = { Solo };
+
+    ghost view = { λ s. record { bodies = s.bodies.items; cells = s.cells } };
+
+    ghost invariant = { λ s. IsSound s.buckets.items s.bodies.items s.cells (vec_capacity s.bodies) };
+}
+
+impl SoloStore {
+    /// A store that knows nothing. It takes all its memory here.
+    pub fn create(alloc: Global, cells: u32) -> Result<SoloStore, AllocError>
+        requires some { 0 < cells }
+        requires within { cells ≤ MAX_CELLS }
+        ensures { IfOk result (λ s. s ≡ record { bodies = []; cells = cells }) }
+    {
+        let buckets = vec![in alloc; 0; (2 * cells).next_power_of_two() as usize]?;
+        let bodies = Vec::with_capacity(alloc, cells as usize)?;
+        Ok(SoloStore {
+            buckets,
+            bodies,
+            cells,
+        })
+    }
+
+    /// How many bodies are known.
+    pub fn len(&self) -> u32
+        ensures count { result ≡ length self.now.bodies }
+        ensures view { IsSoloView (solo_view self.now) result }
+    {
+        self.bodies.len() as u32
+    }
+
+    pub fn is_empty(&self) -> bool
+        ensures { IsTrue result ↔ (self.now.bodies ≡ []) }
+    {
+        self.bodies.is_empty()
+    }
+}
