@@ -1,1 +1,3 @@
 pub mod BucketLaws
+pub mod PushLaws
+pub mod SoloLaws

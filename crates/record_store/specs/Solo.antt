@@ -1,9 +1,10 @@
 -- What a `SoloStore` is, and how it is seen as a store.
-use Rattle.std.specs.Prelude.{◌≡◌, ◌==◌, ◌↔◌, ℕ, ◌<◌, ◌≤◌, List, [], ◌∷◌, length, nat_eq, Contains, IsTrue, Some, Bool, true, false, refl}
+use Rattle.std.specs.Prelude.{◌≡◌, ◌==◌, ◌↔◌, ℕ, ◌<◌, ◌≤◌, ◌+◌, List, [], ◌∷◌, ◌++◌, Result, Ok, length, nat_eq, Contains, IsTrue, Some, Bool, true, false, refl}
 use Rattle.std.specs.FinMap as map
 use Rattle.std.specs.List.{IsDistinct, enumerate_from, range_with_len}
 use Rattle.record_store.specs.StoreView.{StoreView, find_in, IsKnown}
 use Rattle.record_store.specs.declared.solo.TheConstants.{MAX_CELLS}
+use Rattle.record_store.specs.declared.store.StoreFull.{StoreFull}
 
 -- the bodies in the order of their ids, and how many it may hold
 pub record Solo : Type 0 where
@@ -32,3 +33,9 @@ pub record IsSoloView (v : StoreView) (count : ℕ) : Type 0 where
   pub some_room : 0 < v.room
   pub room : v.room ≤ MAX_CELLS
   pub stamp : v.stamp ≡ []
+
+-- a body is put at the end, under the next id
+pub record Adds (old new : Solo) (body : List ℕ) (result : Result ℕ StoreFull) : Type 0 where
+  pub id : result ≡ Ok (length old.bodies + 1)
+  pub bodies : new.bodies ≡ old.bodies ++ body ∷ []
+  pub cells : new.cells ≡ old.cells

@@ -1,6 +1,6 @@
-ghost use Rattle.std.specs.Prelude.{◌≡◌, ◌↔◌, ◌+◌, ◌<◌, ◌≤◌, [], ◌∷◌, ◌++◌, length, IfOk, IsTrue, Some};
+ghost use Rattle.std.specs.Prelude.{◌≡◌, ◌↔◌, ◌+◌, ◌<◌, ◌≤◌, [], ◌∷◌, ◌++◌, length, IfOk, IsErr, IsTrue, Some};
 ghost use Rattle.record_store.specs.Interns.{Interns};
-ghost use Rattle.record_store.specs.Solo.{solo_view, IsSoloView};
+ghost use Rattle.record_store.specs.Solo.{solo_view, IsSoloView, Adds};
 ghost use Rattle.record_store.specs.StoreView.{find_in, IsKnown, HasBody};
 
 use crate::probe::{PathEnd, probe};
@@ -61,5 +61,42 @@ impl SoloStore {
         ensures { IsTrue result ↔ (self.now.bodies ≡ []) }
     {
         self.bodies.is_empty()
+    }
+}
+
+impl Store for SoloStore {
+    ghost view = { solo_view };
+
+    fn intern(&mut self, body: &[u64; 8]) -> Result<u32, StoreFull>
+        ensures interns { Interns (solo_view self.old) (solo_view self.new) body.now result }
+
+        // A new body gets the next id, or is refused where each cell is taken.
+        ensures known { HasBody (solo_view self.old) body.now → self.new ≡ self.old }
+        ensures added { (HasBody (solo_view self.old) body.now → ⊥) → length self.old.bodies < self.old.cells → Adds self.old self.new body.now result }
+        ensures full { (HasBody (solo_view self.old) body.now → ⊥) → length self.old.bodies ≡ self.old.cells → IsErr result × (self.new ≡ self.old) }
+    {
+        let bucket = match probe(&self.buckets, &self.bodies, body) {
+            PathEnd::Known(id) => return Ok(id),
+            PathEnd::Empty(bucket) => bucket,
+        };
+        if self.bodies.len() == self.cells as usize {
+            return Err(StoreFull);
+        }
+        match self.bodies.push(*body) {
+            Ok(()) => {
+                let id = self.bodies.len() as u32;
+                self.buckets[bucket] = id;
+                Ok(id)
+            }
+            Err(_) => Err(StoreFull),
+        }
+    }
+
+    fn fields(&mut self, id: u32) -> [u64; 8]
+        requires { IsKnown (solo_view self.old) id }
+        ensures body { find_in (solo_view self.old) id ≡ Some result }
+        ensures unchanged { self.new ≡ self.old }
+    {
+        self.bodies[id as usize - 1]
     }
 }
