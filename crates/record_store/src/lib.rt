@@ -11,6 +11,8 @@ mod path;
 mod probe;
 mod solo;
 mod store;
+#[cfg(test)]
+mod tests;
 
 pub use path::start;
 pub use solo::{MAX_CELLS, SoloStore};
