@@ -1,10 +1,10 @@
 -- What a list, and an index of it, keep where a body is pushed.
-use Rattle.std.proofs.Common.{◌≡◌, ◌≢◌, ◌⊎◌, ℕ, zero, suc, ◌+◌, ◌<◌, ◌≤◌, List, [], ◌∷◌, ◌++◌, length, get_or, set, min, sum_by, slice_get, Some, None, refl, sym, ap, subst, ◌∙◌, inl, inr, ⊎_elim, arith, get_or-set_same, get_or-set_other, length-set, length-append}
+use Rattle.std.proofs.Common.{◌≡◌, ◌≢◌, ◌⊎◌, ℕ, zero, suc, ◌+◌, ◌*◌, ◌<◌, ◌≤◌, List, [], ◌∷◌, ◌++◌, length, get_or, set, min, sum_by, slice_get, Some, None, refl, sym, ap, subst, ◌∙◌, inl, inr, ⊎_elim, arith, get_or-set_same, get_or-set_other, length-set, length-append}
 use Rattle.std.proofs.lemmas.Bool.{cases_eq}
 use Rattle.std.proofs.lemmas.List.{length_push}
 use Rattle.std.proofs.lemmas.List.Sums.{sum_by-set}
 use Rattle.std.proofs.lemmas.Option.{none-some, same_Some, slice_get_within}
-use Rattle.std.specs.Int.{IsPowerOfTwo}
+use Rattle.std.specs.Int.{IsPowerOfTwo, IsNextPowerOfTwo}
 use Rattle.record_store.specs.Buckets.{IsIndex, IsReached, taken_count}
 use Rattle.record_store.specs.Path.{path_bucket}
 use Rattle.record_store.specs.Probe.{IsNew}
@@ -103,13 +103,13 @@ index_push buckets bodies body bucket index within empty reached new room =
 -- the fields stay sound
 pub sound_push : (buckets : List ℕ) (bodies new : List (List ℕ)) (body : List ℕ) (bucket id cells old_capacity capacity : ℕ) → IsSound buckets bodies cells old_capacity → bucket < length buckets → get_or buckets bucket 0 ≡ 0 → IsReached buckets body bucket → IsNew bodies body → length bodies < cells → id ≡ length bodies + 1 → new ≡ bodies ++ body ∷ [] → old_capacity ≤ capacity → IsSound (set buckets bucket id) new cells capacity
 sound_push buckets bodies new body bucket id cells old_capacity capacity held within empty reached fresh below next pushed grows =
-    let index = index_push buckets bodies body bucket held.index within empty reached fresh (omega (arith, held.buckets_more)) in
+    let index = index_push buckets bodies body bucket held.index within empty reached fresh (omega (arith, held.bucket_count.1, held.some_cells)) in
     let all : IsSound (set buckets bucket (length bodies + 1)) (bodies ++ body ∷ []) cells capacity = record {
       index = index;
       within = omega (arith, length_push bodies body);
       some_cells = held.some_cells;
       cells_within = held.cells_within;
-      buckets_more = omega (arith, held.buckets_more, length-set buckets bucket (length bodies + 1));
+      bucket_count = subst (IsNextPowerOfTwo (2 * cells)) (sym (length-set buckets bucket (length bodies + 1))) held.bucket_count;
       capacious = omega (arith, held.capacious);
     } in
     subst (λ n. IsSound (set buckets bucket n) new cells capacity) (sym next)

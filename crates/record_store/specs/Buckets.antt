@@ -1,5 +1,5 @@
 -- How the buckets of a `SoloStore` lead to its bodies.
-use Rattle.std.specs.Prelude.{◌≡◌, ℕ, ◌+◌, ◌<◌, ◌≤◌, ◌^◌, List, length, min, slice_get, slice_index, sum_by, Some}
+use Rattle.std.specs.Prelude.{◌≡◌, ℕ, ◌+◌, ◌<◌, ◌≤◌, ◌^◌, List, [], ◌∷◌, length, min, refl, slice_get, slice_index, sum_by, Some}
 use Rattle.std.specs.Int.{IsPowerOfTwo}
 use Rattle.record_store.specs.Path.{path_bucket}
 
@@ -12,6 +12,9 @@ pub record IsReached (buckets : List ℕ) (body : List ℕ) (bucket : ℕ) : Typ
 -- how many buckets are taken
 abbrev pub taken_count : List ℕ → ℕ
 taken_count buckets = sum_by (min 1) buckets
+
+two_are_taken : taken_count (0 ∷ 2 ∷ 0 ∷ 1 ∷ []) ≡ 2
+two_are_taken = refl
 
 -- A bucket holds 0 or the id of a body, where id k + 1 is that of the body at k. Each body is reached at its id's
 -- bucket, none stands twice, and a bucket is empty

@@ -19,10 +19,11 @@ start_of body buckets = hash_of body % buckets
 abbrev pub path_bucket : List ℕ → ℕ → ℕ → ℕ
 path_bucket body buckets distance = (start_of body buckets + distance) % buckets
 
-abbrev lower_node : List ℕ
+-- two nodes of a half adder
+abbrev pub lower_node : List ℕ
 lower_node = 2 ∷ 0 ∷ 0 ∷ 0 ∷ 0 ∷ 0 ∷ 1 ∷ 0 ∷ []
 
-abbrev upper_node : List ℕ
+abbrev pub upper_node : List ℕ
 upper_node = 1 ∷ 1 ∷ 1 ∷ 0 ∷ 0 ∷ 0 ∷ 1 ∷ 0 ∷ []
 
 hash_of_lower : hash_of lower_node ≡ 14541201291830862274

@@ -1,7 +1,10 @@
 -- What a `SoloStore` is, and how it is seen as a store.
-use Rattle.std.specs.Prelude.{◌≡◌, ◌==◌, ◌↔◌, ℕ, ◌<◌, ◌≤◌, ◌+◌, List, [], ◌∷◌, ◌++◌, Result, Ok, length, nat_eq, Contains, IsTrue, Some, Bool, true, false, refl}
+use Rattle.std.specs.Prelude.{◌≡◌, ◌==◌, ◌↔◌, ℕ, ◌<◌, ◌≤◌, ◌+◌, List, [], ◌∷◌, ◌++◌, Result, Ok, length, nat_eq, Contains, IsTrue, Some, None, true, refl}
+use Rattle.std.specs.Cmp.{nat_cmp_total}
 use Rattle.std.specs.FinMap as map
+use Rattle.std.specs.FinMap.{get-from_entries}
 use Rattle.std.specs.List.{IsDistinct, enumerate_from, range_with_len}
+use Rattle.record_store.specs.Path.{lower_node, upper_node}
 use Rattle.record_store.specs.StoreView.{StoreView, find_in, IsKnown}
 use Rattle.record_store.specs.declared.solo.TheConstants.{MAX_CELLS}
 use Rattle.record_store.specs.declared.store.StoreFull.{StoreFull}
@@ -20,6 +23,21 @@ solo_view s = record {
   room = s.cells;
   stamp = [];
 }
+
+abbrev two_bodies : Solo
+two_bodies = record { bodies = lower_node ∷ upper_node ∷ []; cells = 2 }
+
+second_of_two : find_in (solo_view two_bodies) 2 ≡ Some upper_node
+second_of_two = get-from_entries nat_cmp_total (enumerate_from 1 two_bodies.bodies) 2
+
+third_of_two : find_in (solo_view two_bodies) 3 ≡ None
+third_of_two = get-from_entries nat_cmp_total (enumerate_from 1 two_bodies.bodies) 3
+
+made_of_two : (solo_view two_bodies).made ≡ 1 ∷ 2 ∷ []
+made_of_two = refl
+
+two_are_all : (solo_view two_bodies).spent ≡ true
+two_are_all = refl
 
 -- what holds of the view of each `SoloStore` that knows so many bodies
 pub record IsSoloView (v : StoreView) (count : ℕ) : Type 0 where

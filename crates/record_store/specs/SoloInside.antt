@@ -1,5 +1,6 @@
 -- What holds of the fields of every `SoloStore`.
-use Rattle.std.specs.Prelude.{ℕ, ◌<◌, ◌≤◌, List, length}
+use Rattle.std.specs.Prelude.{ℕ, ◌*◌, ◌<◌, ◌≤◌, List, length}
+use Rattle.std.specs.Int.{IsNextPowerOfTwo}
 use Rattle.record_store.specs.Buckets.{IsIndex}
 use Rattle.record_store.specs.declared.solo.TheConstants.{MAX_CELLS}
 
@@ -8,5 +9,6 @@ pub record IsSound (buckets : List ℕ) (bodies : List (List ℕ)) (cells capaci
   pub within : length bodies ≤ cells
   pub some_cells : 0 < cells
   pub cells_within : cells ≤ MAX_CELLS
-  pub buckets_more : cells < length buckets
+  -- the least power of two that is at least twice the cells
+  pub bucket_count : IsNextPowerOfTwo (2 * cells) (length buckets)
   pub capacious : cells ≤ capacity

@@ -16,17 +16,18 @@ returns-in-Known-clause-interns c =
     subst (λ v. Interns (solo_view v) (solo_view v) c.args.body.now (Ok c.in-Known.id)) c.self.view_is
     (interns_known s c.args.body.now c.in-Known.id held.index.distinct held.within c.in-Known.ensures.0 is)
 
-pub returns-in-Known-clause-added : goal.returns-in-Known-clause-added
-returns-in-Known-clause-added c new =
+-- the body was known
+was_known : (c : goal.In-Known) → HasBody (solo_view c.args.self.now) c.args.body.now
+was_known c =
     let s : Solo = record { bodies = c.self.inside.bodies.items; cells = c.self.inside.cells } in
     let is = ap (λ bs. slice_get bs (c.in-Known.id - 1)) (sym c.deref-2.ensures.value) ∙ c.in-Known.ensures.1 in
-    absurd (new (subst (λ v. HasBody (solo_view v) c.args.body.now) c.self.view_is (has_at s (c.in-Known.id - 1) c.args.body.now is)))
+    subst (λ v. HasBody (solo_view v) c.args.body.now) c.self.view_is (has_at s (c.in-Known.id - 1) c.args.body.now is)
+
+pub returns-in-Known-clause-added : goal.returns-in-Known-clause-added
+returns-in-Known-clause-added c new = absurd (new (was_known c))
 
 pub returns-in-Known-clause-full : goal.returns-in-Known-clause-full
-returns-in-Known-clause-full c new =
-    let s : Solo = record { bodies = c.self.inside.bodies.items; cells = c.self.inside.cells } in
-    let is = ap (λ bs. slice_get bs (c.in-Known.id - 1)) (sym c.deref-2.ensures.value) ∙ c.in-Known.ensures.1 in
-    absurd (new (subst (λ v. HasBody (solo_view v) c.args.body.now) c.self.view_is (has_at s (c.in-Known.id - 1) c.args.body.now is)))
+returns-in-Known-clause-full c new = absurd (new (was_known c))
 
 pub returns-then-len-self-clause-interns : goal.returns-then-len-self-clause-interns
 returns-then-len-self-clause-interns c =
