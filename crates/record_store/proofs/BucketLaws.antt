@@ -1,14 +1,14 @@
 -- Where a path leads, and what it passes.
-use Rattle.std.proofs.Common.{◌≡◌, ◌≢◌, ◌⊎◌, ℕ, zero, suc, ◌+◌, ◌-◌, ◌%◌, ◌<◌, ◌≤◌, List, [], ◌∷◌, ◌++◌, length, get_or, set, min, sum_by, slice_get, Some, true, false, refl, sym, ap, subst, ◌∙◌, inl, inr, ⊎_elim, arith, bit_and}
+use Rattle.std.proofs.Common.{◌≡◌, ℕ, zero, suc, ◌+◌, ◌-◌, ◌%◌, ◌<◌, ◌≤◌, List, [], ◌∷◌, length, get_or, min, slice_get, Some, true, false, refl, sym, ap, subst, ◌∙◌, ⊎_elim, arith, bit_and}
 use Rattle.std.proofs.Math.Nat.{mod-lt, mod-eq_of_lt, add-mod_right}
-use Rattle.std.proofs.lemmas.Bool.{cases_lt, cases_eq, false≢true}
+use Rattle.std.proofs.lemmas.Bool.{cases_lt, false≢true}
 use Rattle.std.proofs.lemmas.List.Sums.{sum_by-cons}
 use Rattle.std.proofs.lemmas.Nat.{and_mask}
 use Rattle.std.proofs.lemmas.Option.{slice_get-get_or, get_or_from_slice_get}
 use Rattle.std.proofs.lemmas.Slice.Eq.{bytes_eq-Decides}
 use Rattle.std.specs.Int.{IsPowerOfTwo}
 use Rattle.std.specs.Str.{bytes_eq}
-use Rattle.record_store.specs.Buckets.{IsIndex, IsReached, taken_count}
+use Rattle.record_store.specs.Buckets.{IsIndex, taken_count}
 use Rattle.record_store.specs.Path.{hash_of, path_bucket, start_of}
 use Rattle.record_store.specs.Probe.{IsNew}
 

@@ -1,13 +1,13 @@
 -- A `SoloStore` as a store: its ids, and what a call of `intern` does.
-use Rattle.std.proofs.Common.{◌≡◌, ◌≢◌, ◌⊎◌, ◌↔◌, ℕ, zero, suc, ◌+◌, ◌-◌, ◌<◌, ◌≤◌, List, [], ◌∷◌, ◌++◌, length, get_or, slice_get, Option, Some, None, Ok, Err, Bool, true, false, cond, nat_eq, is_eq, refl, sym, ap, subst, ◌∙◌, inl, inr, ⊎_elim, arith, lit<}
+use Rattle.std.proofs.Common.{◌≡◌, ℕ, zero, suc, ◌+◌, ◌-◌, ◌<◌, ◌≤◌, List, [], ◌∷◌, ◌++◌, length, get_or, slice_get, Some, None, Ok, Err, false, nat_eq, is_eq, refl, sym, ap, ◌∙◌, inl, inr, ⊎_elim, arith}
 use Rattle.std.proofs.lemmas.Bool.{cond-true, cond-false, false≢true, ne_eqb}
 use Rattle.std.proofs.lemmas.Bool.Decides.{Decides-eqb}
 use Rattle.std.proofs.lemmas.List.{length_push, map-id}
 use Rattle.std.proofs.lemmas.List.FromFn.{length-range_with_len, get_or-range_with_len, map-range_with_len_more}
-use Rattle.std.proofs.lemmas.Option.{none-some, same_Some, slice_get_within, slice_get-get_or}
+use Rattle.std.proofs.lemmas.Option.{none-some, slice_get_within, slice_get-get_or}
 use Rattle.std.specs.Cmp.{nat_cmp_total, nat_cmp_is}
 use Rattle.std.specs.FinMap.{find, get-from_entries}
-use Rattle.std.specs.List.{AllByRecursion, Contains, IsDistinct, enumerate_from, range_with_len}
+use Rattle.std.specs.List.{AllByRecursion, IsDistinct, enumerate_from, range_with_len}
 use Rattle.std.specs.Ordering.{nat_cmp, eq_by_cmp}
 use Rattle.std.specs.declared.cmp.Ordering.TheVariants.{Less, Equal, Greater}
 use Rattle.record_store.specs.Interns.{Interns}
@@ -15,7 +15,6 @@ use Rattle.record_store.specs.Probe.{IsNew}
 use Rattle.record_store.specs.Solo.{Solo, solo_view, IsSoloView}
 use Rattle.record_store.specs.StoreView.{find_in, HasBody, IsKnown}
 use Rattle.record_store.specs.declared.solo.TheConstants.{MAX_CELLS}
-use Rattle.record_store.specs.declared.store.StoreFull.{StoreFull}
 use Rattle.record_store.proofs.PushLaws.{slice_get_kept, slice_get_last, slice_get_push}
 
 -- the entry under a number that the entries begin at or before

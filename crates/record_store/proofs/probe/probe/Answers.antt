@@ -1,7 +1,7 @@
 use Rattle.std.proofs.Common.{◌≡◌, ℕ, ◌+◌, ◌-◌, ◌<◌, ◌≤◌, length, get_or, bit_and, slice_get, Some, arith, sym, ap, subst, ◌∙◌, below_more}
 use Rattle.std.proofs.Math.Nat.{mod-lt}
 use Rattle.std.proofs.lemmas.Nat.{and_le_r}
-use Rattle.record_store.specs.Path.{path_bucket, start_of}
+use Rattle.record_store.specs.Path.{start_of}
 use Rattle.record_store.proofs.BucketLaws.{masked_bucket, passed_below, new_at_empty, found_body, other_body}
 use Rattle.record_store.proofs.probe.probe.Goals as goal
 

@@ -1,5 +1,4 @@
-use Rattle.std.proofs.Common.{ap, sym, subst, ◌∙◌, arith}
-use Rattle.std.proofs.lemmas.Grind.{common_steps}
+use Rattle.std.proofs.Common.{sym, subst, ◌∙◌}
 use Rattle.record_store.specs.Solo.{Solo, solo_view, IsSoloView}
 use Rattle.record_store.proofs.SoloLaws.{is_solo_view}
 use Rattle.record_store.proofs.solo.SoloStore.len.Goals as goal

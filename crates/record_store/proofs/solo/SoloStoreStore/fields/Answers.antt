@@ -1,4 +1,4 @@
-use Rattle.std.proofs.Common.{◌≡◌, ◌+◌, ◌-◌, ◌<◌, get_or, ap, sym, subst, ◌∙◌, arith, Some, length}
+use Rattle.std.proofs.Common.{◌≡◌, ◌-◌, ◌<◌, get_or, ap, sym, subst, ◌∙◌, arith, Some, length}
 use Rattle.std.proofs.lemmas.Option.{slice_get_within, slice_get-get_or}
 use Rattle.record_store.specs.Solo.{Solo, solo_view}
 use Rattle.record_store.specs.StoreView.{find_in, IsKnown}

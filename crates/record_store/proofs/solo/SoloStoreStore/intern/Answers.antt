@@ -1,4 +1,4 @@
-use Rattle.std.proofs.Common.{◌≡◌, ◌+◌, ◌-◌, ◌<◌, ◌++◌, [], ◌∷◌, List, ℕ, ap, sym, subst, ◌∙◌, arith, Some, Ok, Err, length, slice_get, get_or}
+use Rattle.std.proofs.Common.{◌≡◌, ◌+◌, ◌-◌, ◌<◌, ◌++◌, [], ◌∷◌, List, ℕ, ap, sym, subst, ◌∙◌, arith, Ok, Err, length, slice_get, get_or}
 use Rattle.record_store.specs.Buckets.{IsReached}
 use Rattle.record_store.specs.Interns.{Interns}
 use Rattle.record_store.specs.Probe.{IsNew}
