@@ -5,7 +5,7 @@ use Rattle.std.specs.FinMap as map
 use Rattle.std.specs.FinMap.{get-from_entries}
 use Rattle.std.specs.List.{IsDistinct, enumerate_from, range_with_len}
 use Rattle.record_store.specs.Path.{lower_node, upper_node}
-use Rattle.record_store.specs.StoreView.{StoreView, find_in, IsKnown}
+use Rattle.record_store.specs.StoreView.{StoreView, find_in, HasBody, IsKnown}
 use Rattle.record_store.specs.declared.solo.TheConstants.{MAX_CELLS}
 use Rattle.record_store.specs.declared.store.StoreFull.{StoreFull}
 
@@ -51,6 +51,14 @@ pub record IsSoloView (v : StoreView) (count : ℕ) : Type 0 where
   pub some_room : 0 < v.room
   pub room : v.room ≤ MAX_CELLS
   pub stamp : v.stamp ≡ []
+
+-- the body is not known, and a cell is left for it
+abbrev pub HasRoomFor : Solo → List ℕ → Type 0
+HasRoomFor s body = (HasBody (solo_view s) body → ⊥) × (length s.bodies < s.cells)
+
+-- the body is not known, and each cell is taken
+abbrev pub IsFullFor : Solo → List ℕ → Type 0
+IsFullFor s body = (HasBody (solo_view s) body → ⊥) × (length s.bodies ≡ s.cells)
 
 -- a body is put at the end, under the next id
 pub record Adds (old new : Solo) (body : List ℕ) (result : Result ℕ StoreFull) : Type 0 where

@@ -1,6 +1,6 @@
-ghost use Rattle.std.specs.Prelude.{◌≡◌, ◌↔◌, ◌+◌, ◌<◌, ◌≤◌, [], ◌∷◌, ◌++◌, length, IfOk, IsErr, IsTrue, Some};
+ghost use Rattle.std.specs.Prelude.{◌≡◌, ◌↔◌, ◌<◌, ◌≤◌, [], length, IfOk, IsErr, IsTrue, Some};
 ghost use Rattle.record_store.specs.Interns.{Interns};
-ghost use Rattle.record_store.specs.Solo.{solo_view, IsSoloView, Adds};
+ghost use Rattle.record_store.specs.Solo.{solo_view, IsSoloView, Adds, HasRoomFor, IsFullFor};
 ghost use Rattle.record_store.specs.StoreView.{find_in, IsKnown, HasBody};
 
 use crate::probe::{PathEnd, probe};
@@ -72,8 +72,8 @@ impl Store for SoloStore {
 
         // A new body gets the next id, or is refused where each cell is taken.
         ensures known { HasBody (solo_view self.old) body.now → self.new ≡ self.old }
-        ensures added { (HasBody (solo_view self.old) body.now → ⊥) → length self.old.bodies < self.old.cells → Adds self.old self.new body.now result }
-        ensures full { (HasBody (solo_view self.old) body.now → ⊥) → length self.old.bodies ≡ self.old.cells → IsErr result × (self.new ≡ self.old) }
+        ensures added { HasRoomFor self.old body.now → Adds self.old self.new body.now result }
+        ensures full { IsFullFor self.old body.now → IsErr result × (self.new ≡ self.old) }
     {
         let bucket = match probe(&self.buckets, &self.bodies, body) {
             PathEnd::Known(id) => return Ok(id),

@@ -24,10 +24,10 @@ was_known c =
     subst (λ v. HasBody (solo_view v) c.args.body.now) c.self.view_is (has_at s (c.in-Known.id - 1) c.args.body.now is)
 
 pub returns-in-Known-clause-added : goal.returns-in-Known-clause-added
-returns-in-Known-clause-added c new = absurd (new (was_known c))
+returns-in-Known-clause-added c can = absurd (can.0 (was_known c))
 
 pub returns-in-Known-clause-full : goal.returns-in-Known-clause-full
-returns-in-Known-clause-full c new = absurd (new (was_known c))
+returns-in-Known-clause-full c is = absurd (is.0 (was_known c))
 
 pub returns-then-len-self-clause-interns : goal.returns-then-len-self-clause-interns
 returns-then-len-self-clause-interns c =
