@@ -1,6 +1,5 @@
 -- The top variable of a function is replaced alike at each letter.
-use Rattle.std.specs.Prelude.{◌≡◌, ℕ, zero, suc, ℤ, ◌+ℤ◌, ◌-ℤ◌, ◌*ℤ◌, List, [], ◌∷◌, refl}
-use Rattle.word_base.specs.declared.decomp.Decomp.{Decomp}
+use Rattle.std.specs.Prelude.{◌≡◌, ℕ, zero, suc, ℤ, ◌+ℤ◌, ◌-ℤ◌, ◌*ℤ◌, [], ◌∷◌, refl}
 use Rattle.word_base.specs.declared.decomp.Decomp.TheVariants.{S, P, N}
 use Rattle.integers.proofs.Solver.{variable, ◌⊕◌, ◌⊖◌, ◌⊗◌, solve}
 use Rattle.std.proofs.Common.{ap}

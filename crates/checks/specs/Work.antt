@@ -1,5 +1,5 @@
 -- The tables that gates, words and the walk go through.
-use Rattle.std.specs.Prelude.{◌≡◌, ℕ, ◌+◌, ◌*◌, ℤ, pos, Bool, true, false, List, [], ◌∷◌, ◌++◌, map, flat_map, fold, if◌then◌else◌, refl}
+use Rattle.std.specs.Prelude.{◌≡◌, ℕ, ◌+◌, ◌*◌, ℤ, pos, Bool, true, List, [], ◌∷◌, ◌++◌, map, flat_map, fold, if◌then◌else◌, refl}
 use Rattle.std.specs.List.{enumerate_from}
 use Rattle.circuits.specs.Polynomial.{step, is_negated}
 use Rattle.circuits.specs.declared.gate_word.GateWord.{GateWord}
