@@ -1,7 +1,7 @@
 -- A check is no larger than its line has symbols.
-use Rattle.std.proofs.Common.{◌≡◌, ℕ, suc, ◌+◌, ◌*◌, ◌<◌, ◌≤◌, ℤ, Bool, true, false, ◌&&◌, ⊎_elim, cond, List, [], ◌∷◌, length, map, position, drop, take, Option, Some, None, refl, sym, ap, subst, arith, nat_lt, nat_le, pos, codes, ◌^◌, get_or, count_by}
+use Rattle.std.proofs.Common.{◌≡◌, ℕ, ◌+◌, ◌*◌, ◌<◌, ◌≤◌, ℤ, Bool, true, false, ◌&&◌, ⊎_elim, cond, List, [], ◌∷◌, length, position, drop, take, Option, Some, None, refl, sym, ap, subst, arith, nat_lt, nat_le, pos, codes, ◌^◌}
 use Rattle.std.specs.Char.{is_ascii_digit}
-use Rattle.std.specs.List.{list_all, position_or_len, before_first, after_first}
+use Rattle.std.specs.List.{list_all, position_or_len}
 use Rattle.std.specs.Str.{bytes_eq}
 use Rattle.std.specs.Str.Parse.{digits_value}
 use Rattle.std.proofs.lemmas.Bool.{leb-true, cases_lt}
