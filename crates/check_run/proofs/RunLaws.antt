@@ -23,7 +23,7 @@ use Rattle.check_run.specs.Files.{Accepts, IsText, RefusesNetlist, RefusesSpec, 
 use Rattle.check_run.specs.Loading.{PutsText}
 use Rattle.check_run.specs.Outside.{Files, Outside, ShelfSeen}
 use Rattle.check_run.specs.Reading.{FailsToRead, IsRefused, IsTaken, IsUnread, WantsMemory}
-use Rattle.check_run.specs.Run.{Answers, IsLine, IsRefusalLine, IsRun, IsVerdictLine, WritesAnswer, is_written}
+use Rattle.check_run.specs.Run.{GivesAnswer, IsLine, IsRefusalLine, IsRun, IsVerdictLine, WritesAnswer, is_written}
 use Rattle.check_run.specs.Statuses.{status_of}
 use Rattle.check_run.specs.Verdicts.{IsReported, IsVerdictOf, MeetsNoLimit}
 use Rattle.check_run.specs.Words.{Names, names_of}
@@ -172,7 +172,7 @@ fault_not_written : (status : Status) → is_written status ≡ true → (fault 
 fault_not_written status is fault not same = let both : true ≡ false = sym is ∙ ap is_written same ∙ not in cc
 
 answers_where_written : (c : Circuit) (s : Specification) (check : Check) (old new : Outside) (status : Status) → is_written status ≡ true →
-    WritesAnswer c s check old.sink new.sink status → Answers c s check old new status
+    WritesAnswer c s check old.sink new.sink status → GivesAnswer c s check old new status
 answers_where_written c s check old new Done is writes = writes
 answers_where_written c s check old new Differs is writes = writes
 answers_where_written c s check old new Refused is writes = writes

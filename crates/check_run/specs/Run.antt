@@ -59,11 +59,11 @@ pub record WritesAnswer (c : Circuit) (s : Specification) (check : Check) (old n
   pub appended : Appends old.written new.written text
 
 -- the line of the answer was written, or a fault was counted, or memory was wanting
-abbrev pub Answers : Circuit → Specification → Check → Outside → Outside → Status → Type 0
-Answers c s check old new ReadFault = Rose old.shelf.faults new.shelf.faults
-Answers c s check old new WriteFault = Rose old.sink.faults new.sink.faults
-Answers c s check old new NoMemory = Unit {0}
-Answers c s check old new status = WritesAnswer c s check old.sink new.sink status
+abbrev pub GivesAnswer : Circuit → Specification → Check → Outside → Outside → Status → Type 0
+GivesAnswer c s check old new ReadFault = Rose old.shelf.faults new.shelf.faults
+GivesAnswer c s check old new WriteFault = Rose old.sink.faults new.sink.faults
+GivesAnswer c s check old new NoMemory = Unit {0}
+GivesAnswer c s check old new status = WritesAnswer c s check old.sink new.sink status
 
 -- a line was written whole
 abbrev pub is_written : Status → Bool
@@ -87,6 +87,6 @@ pub record IsRun (words : List (List ℕ)) (old new : Outside) (status : Status)
   pub nothing : (status ≡ ReadFault) ⊎ (status ≡ NoMemory) → new.sink.written ≡ old.sink.written
   -- where both files are taken and no limit has its cause, the answer is written
   pub answered : (c : Circuit) (s : Specification) (check : Check) →
-      Accepts words old.shelf.files c s check → MeetsNoLimit c s check → Answers c s check old new status
+      Accepts words old.shelf.files c s check → MeetsNoLimit c s check → GivesAnswer c s check old new status
   -- a netlist's file that is told to be absent is a fault of reading
   pub absent : (names : Names) → names_of words ≡ Some names → Lacks old.shelf.files names.netlist → status ≡ ReadFault

@@ -26,7 +26,8 @@ struct Outcome {
 
 /// The line of a refusal.
 fn refused(alloc: Global, refusal: &Refusal) -> Result<Outcome, AllocError>
-    ensures { IfOk result (λ outcome. IsRefusalLine refusal.now (string_bytes outcome.text) outcome.status) }
+    ensures { IfOk result (λ outcome.
+        IsRefusalLine refusal.now (string_bytes outcome.text) outcome.status) }
 {
     let text = refusal_line(alloc, refusal)?;
     let status = Status::Refused;
@@ -37,7 +38,8 @@ fn refused(alloc: Global, refusal: &Refusal) -> Result<Outcome, AllocError>
 fn checked(alloc: Global, netlist: &Netlist, spec: &Spec) -> Result<Outcome, AllocError>
     requires over { IsOver netlist.now spec.now }
     requires usual { IsUsual spec.now }
-    ensures { IfOk result (λ outcome. (verdict : Verdict) × IsReported netlist.now spec.now 0 verdict
+    ensures { IfOk result (λ outcome. (verdict : Verdict)
+        × IsReported netlist.now spec.now 0 verdict
         × IsVerdictLine netlist.now spec.now verdict (string_bytes outcome.text) outcome.status) }
 {
     let verdict = decide(alloc, netlist, spec, 0)?;
@@ -73,8 +75,10 @@ pub fn run<F: Shelf, O: Sink, G: Gate>(
     _gate: &G,
 ) -> Status
     ensures { IsRun (texts words.now)
-        (seen (shelf_seen F.files F.fetches F.faults shelf.old) (sink_seen O.written O.faults out.old))
-        (seen (shelf_seen F.files F.fetches F.faults shelf.new) (sink_seen O.written O.faults out.new))
+        (seen (shelf_seen F.files F.fetches F.faults shelf.old)
+        (sink_seen O.written O.faults out.old))
+        (seen (shelf_seen F.files F.fetches F.faults shelf.new)
+        (sink_seen O.written O.faults out.new))
         result }
 {
     match load(alloc, words, shelf) {

@@ -1,4 +1,5 @@
-ghost use Rattle.std.specs.Prelude.{◌≡◌, ◌&&◌, map, IfSome, IsNone, Some, None};
+ghost use Rattle.std.specs.Prelude.{◌≡◌, ◌&&◌, IfSome, IsNone, Some, None};
+ghost use Rattle.check_run.specs.Outside.{texts};
 ghost use Rattle.check_run.specs.Words.{is_check_hdd, is_name, names_of};
 
 fn is_name(word: &str) -> bool
@@ -19,8 +20,9 @@ fn is_check_hdd(command: &str, option: &str, kind: &str) -> bool
 /// The names of the netlist's and the specification's file, where the words are
 /// `check --kind hdd NAME NAME`.
 pub(crate) fn names_in<'a>(words: &[&'a str]) -> Option<(&'a str, &'a str)>
-    ensures some { IfSome result (λ names. names_of (map (λ w. w.now) words.now) ≡ Some (record { netlist = names.0.now; spec = names.1.now })) }
-    ensures none { IsNone result → names_of (map (λ w. w.now) words.now) ≡ None }
+    ensures some { IfSome result (λ names. names_of (texts words.now)
+        ≡ Some (record { netlist = names.0.now; spec = names.1.now })) }
+    ensures none { IsNone result → names_of (texts words.now) ≡ None }
 {
     match words {
         [command, option, kind, netlist, spec] => {
