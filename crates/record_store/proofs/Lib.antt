@@ -1,3 +1,4 @@
 pub mod BucketLaws
+mod Examples
 pub mod PushLaws
 pub mod SoloLaws

@@ -49,7 +49,7 @@ impl SoloStore {
         })
     }
 
-    /// How many bodies are known.
+    /// How many bodies are known. The contract tells what holds of the view of every `SoloStore`.
     pub fn len(&self) -> u32
         ensures count { result ≡ length self.now.bodies }
         ensures view { IsSoloView (solo_view self.now) result }
