@@ -33,10 +33,10 @@ impl Model for MemoryShelf {
     ghost coded = { shelf_code };
 
     ghost view = { λ s. record {
-        files = map.from_entries (map (λ e. (string_bytes e.0, e.1.items)) s.files.entries);
-        failing = set.from_list s.failing.keys;
-        fetches = s.fetches;
-        faults = s.faults;
+      files = map.from_entries (map (λ e. (string_bytes e.0, e.1.items)) s.files.entries);
+      failing = set.from_list s.failing.keys;
+      fetches = s.fetches;
+      faults = s.faults;
     } };
 }
 
