@@ -1,4 +1,5 @@
 use super::*;
+use std::env::{Env, FillError};
 use std::fs;
 use std::test::Fail;
 
@@ -13,14 +14,49 @@ const C17: &str =
 
 const C17_SPEC: &str = "word g = 22\nword p = 10\nword q = 16\ncheck g + p*q == 1\n";
 
+/// A command line of these arguments.
+#[derive(Drop)]
+struct Arguments<'a> {
+    all: &'a [&'a [u8]],
+}
+
+impl<'a> Env for Arguments<'a> {
+    fn arg(&self, i: usize, buf: &mut [u8]) -> Result<usize, FillError> {
+        let Some(argument) = self.all.get(i) else {
+            return Err(FillError::NotPresent);
+        };
+        if argument.len() > buf.len() {
+            return Err(FillError::TooLong);
+        }
+        buf[..argument.len()].copy_from_slice(argument);
+        Ok(argument.len())
+    }
+
+    fn var(&self, _name: &str, _buf: &mut [u8]) -> Result<usize, FillError> {
+        Err(FillError::NotPresent)
+    }
+
+    fn var_at(&self, _i: usize, _buf: &mut [u8]) -> Result<usize, FillError> {
+        Err(FillError::NotPresent)
+    }
+}
+
+/// The number of the status to which these arguments lead, over the real files.
+fn number_of_arguments(rt: HostRuntime, arguments: &[&[u8]]) -> Result<u8, Fail> {
+    let alloc = rt.alloc();
+    let arguments = env::args(&(Arguments { all: arguments }, alloc));
+    let mut shelf = FileShelf::new(rt);
+    let mut out = StreamSink::new(io::writer(&rt));
+    Ok(answer(alloc, arguments, &mut shelf, &mut out)?.number())
+}
+
 /// The number of the status to which the files of two names lead.
 fn number_of(rt: HostRuntime, netlist: &str, spec: &str) -> Result<u8, Fail> {
-    let alloc = rt.alloc();
-    let mut words = Vec::new(alloc);
-    for word in ["check", "--kind", "hdd", netlist, spec] {
-        words.push(String::from_str(alloc, word)?)?;
-    }
-    Ok(answer(rt, alloc, &words)?.number())
+    let names = [netlist.as_bytes(), spec.as_bytes()];
+    number_of_arguments(
+        rt,
+        &[b"worddd", b"check", b"--kind", b"hdd", names[0], names[1]],
+    )
 }
 
 /// The same of two real files with these texts.
@@ -57,4 +93,18 @@ fn real_files_are_checked(rt: HostRuntime) -> Result<(), Fail> {
 fn an_absent_file_is_a_read_fault(rt: HostRuntime) -> Result<(), Fail> {
     assert_eq!(rt; number_of(rt, "absent.bench", "absent.spec")?, 4);
     Ok(())
+}
+
+#[test]
+fn words_that_are_no_text_are_refused(rt: HostRuntime) -> Result<(), Fail> {
+    assert_eq!(rt;
+        number_of_arguments(rt, &[b"worddd", b"check", b"\xff"])?,
+        2
+    );
+    Ok(())
+}
+
+#[test]
+fn want_of_memory_has_a_number(rt: HostRuntime) {
+    assert!(rt; exit_of(Err(AllocError)) == ExitCode::from(6));
 }

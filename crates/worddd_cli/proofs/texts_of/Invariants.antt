@@ -1,0 +1,6 @@
+use Rattle.std.proofs.Common.{◌≡◌, map, string_bytes, take}
+use Rattle.check_run.specs.Outside.{texts}
+use Rattle.worddd_cli.proofs.texts_of.Given as goal
+
+abbrev pub invariant-loop-word : goal.invariant-loop-word
+invariant-loop-word l = texts l.borrowed.items ≡ map string_bytes (take l.word-index l.words)
