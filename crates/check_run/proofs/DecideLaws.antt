@@ -2,12 +2,12 @@
 use Rattle.std.proofs.Common.{◌≡◌, refl, sym, ◌∙◌, ap, subst, ℕ, zero, suc, ℤ, Bool, true, false, List, [], ◌∷◌, length}
 use Rattle.std.specs.Prelude.{◌&&◌, ◌^◌, IfOk, IfSome, Option, Some, None, Result, Ok, Err, slice_get, unsigned_abs}
 use Rattle.std.specs.declared.alloc.AllocError.{AllocError}
-use Rattle.std.proofs.lemmas.Bool.{ltb-true}
+use Rattle.std.proofs.lemmas.Bool.{and_parts, ltb-true}
 use Rattle.std.specs.Option.{option_map_or}
 use Rattle.word_base.specs.declared.decomp.Decomp.{Decomp}
 use Rattle.word_base.specs.declared.kind_name.KindName.TheVariants.{Hdd}
 use Rattle.word_base.specs.Range.{InRange}
-use Rattle.netlist.specs.Circuit.{Circuit}
+use Rattle.circuits.specs.Circuit.{Circuit}
 use Rattle.spec_lang.specs.declared.eval_error.EvalError.{EvalError}
 use Rattle.spec_lang.specs.declared.eval_error.EvalError.TheVariants as eval
 use Rattle.spec_lang.specs.Evaluated.{IsEvaluated}
@@ -18,7 +18,6 @@ use Rattle.spec_lang.specs.Value.{all_in_range, value}
 use Rattle.spec_lang.proofs.Values.{whole_in_range}
 use Rattle.tables.specs.Pieces.{SomeUnfit}
 use Rattle.tables.specs.Table.{tabulate}
-use Rattle.tables.proofs.TreeLaws.{and_left, and_right}
 use Rattle.checks.specs.Answer.{Difference, answer, entry_at, first_difference}
 use Rattle.checks.specs.Forward.{building_work}
 use Rattle.checks.specs.Limits.{over, short}
@@ -87,8 +86,8 @@ different_decided c s place check d left right at is found at_is fits left_is ri
     let r : right ≡ d.right =
     right_is ∙ ap (λ b. value s.words (net_values c s b) check.right) at_is
     ∙ sym (entry_of_tabulate n (λ b. value s.words (net_values c s b) check.right) bits first.full) ∙ first.right in
-    let low : all_in_range s.words (net_values c s at) check.left ≡ true = and_left (all_in_range s.words (net_values c s at) check.left) (all_in_range s.words (net_values c s at) check.right) fits in
-    let high : all_in_range s.words (net_values c s at) check.right ≡ true = and_right (all_in_range s.words (net_values c s at) check.left) (all_in_range s.words (net_values c s at) check.right) fits in (
+    let low : all_in_range s.words (net_values c s at) check.left ≡ true = (and_parts (all_in_range s.words (net_values c s at) check.left) (all_in_range s.words (net_values c s at) check.right) fits).0 in
+    let high : all_in_range s.words (net_values c s at) check.right ≡ true = (and_parts (all_in_range s.words (net_values c s at) check.left) (all_in_range s.words (net_values c s at) check.right) fits).1 in (
       check,
       is,
       (value_in_range s.words (net_values c s at) check.left left left_is low, value_in_range s.words (net_values c s at) check.right right right_is high, ap (λ x. Different x right at) l ∙ ap (λ x. Different d.left x at) r ∙ ap (Different d.left d.right) at_is ∙ answer_of c s check (Some d) found),

@@ -2,7 +2,7 @@
 use Rattle.std.proofs.Common.{refl, ℕ, List, [], inl, inr, lit≤}
 use Rattle.std.specs.Prelude.{codes, Some, None}
 use Rattle.std.specs.Fmt.{digits}
-use Rattle.netlist.specs.Circuits.{half}
+use Rattle.circuits.specs.Examples.{half}
 use Rattle.spec_lang.specs.Specification.{half_adder, half_adder_check}
 use Rattle.checks.specs.declared.verdict.Verdict.TheVariants.{Equal}
 use Rattle.check_run.specs.declared.status.Status.TheVariants.{Done, ReadFault}

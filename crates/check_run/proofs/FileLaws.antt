@@ -1,7 +1,7 @@
 -- What came of one file.
 use Rattle.std.proofs.Common.{◌≡◌, refl, sym, subst, ℕ, List, inr}
 use Rattle.std.specs.Prelude.{IsErrAnd, Option, Result, Ok, Err}
-use Rattle.netlist.specs.Circuit.{Circuit}
+use Rattle.circuits.specs.Circuit.{Circuit}
 use Rattle.bench_reader.specs.Reading.{IsFaultOf, reading}
 use Rattle.bench_reader.specs.declared.fault.BenchError.{BenchError}
 use Rattle.bench_reader.specs.declared.fault.BenchError.TheVariants as bench

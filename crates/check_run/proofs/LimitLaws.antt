@@ -10,8 +10,8 @@ use Rattle.std.proofs.lemmas.Bool.Decides.{nat_tests}
 use Rattle.std.proofs.lemmas.List.Elements.{Contains-append_left}
 use Rattle.std.proofs.lemmas.Map.Keys.{IsDistinct-cons}
 use Rattle.std.proofs.lemmas.Map.Made.{length-le_from_is_member}
-use Rattle.netlist.specs.Circuit.{Circuit}
-use Rattle.netlist.proofs.Members.{Contains-cases, Contains-nil, list_all-true}
+use Rattle.circuits.specs.Circuit.{Circuit}
+use Rattle.circuits.proofs.Members.{Contains-cases, Contains-nil, list_all-true}
 use Rattle.spec_lang.specs.Placed.{net_values}
 use Rattle.spec_lang.specs.Specification.{Check, Specification}
 use Rattle.spec_lang.specs.Value.{all_in_range}

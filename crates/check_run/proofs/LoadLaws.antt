@@ -1,7 +1,7 @@
 -- From what came of the specification's file, after the netlist's, to what came of both.
 use Rattle.std.proofs.Common.{◌≡◌, sym, ◌∙◌, ap, subst, ℕ, List, inl, inr}
 use Rattle.std.specs.Prelude.{IsErrAnd, Result, Some, Ok, Err}
-use Rattle.netlist.specs.Circuit.{Circuit}
+use Rattle.circuits.specs.Circuit.{Circuit}
 use Rattle.spec_lang.specs.Specification.{Specification}
 use Rattle.outside.specs.Count.{raised}
 use Rattle.outside.specs.Shelf.{Lacks}

@@ -2,7 +2,7 @@
 use Rattle.std.proofs.Common.{◌≡◌, refl, subst, ℕ, zero, suc, List, [], ◌∷◌, ◌++◌, replicate}
 use Rattle.std.specs.Prelude.{Option, Some, None}
 use Rattle.std.specs.Option.{option_map, option_and_then}
-use Rattle.netlist.specs.Circuit.{Circuit, input_count}
+use Rattle.circuits.specs.Circuit.{Circuit, input_count}
 use Rattle.spec_lang.specs.Specification.{Check, Specification, Word}
 use Rattle.word_base.specs.declared.decomp.Decomp.TheVariants.{P}
 use Rattle.word_base.specs.declared.kind_name.KindName.TheVariants.{Hdd}

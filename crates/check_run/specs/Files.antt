@@ -2,8 +2,8 @@
 use Rattle.std.specs.Prelude.{◌≡◌, ◌⊎◌, ℕ, ◌≤◌, List, length, codes, Option, Some, None, Ok, Err, slice_get, if◌then◌else◌, refl}
 use Rattle.std.specs.Str.{bytes_eq}
 use Rattle.std.proofs.Common.{inr, lit≤}
-use Rattle.netlist.specs.Circuit.{Circuit}
-use Rattle.netlist.specs.Circuits.{half}
+use Rattle.circuits.specs.Circuit.{Circuit}
+use Rattle.circuits.specs.Examples.{half}
 use Rattle.bench_reader.specs.Faults.{fault}
 use Rattle.bench_reader.specs.declared.fault.BenchCause.TheVariants.{Cycle}
 use Rattle.bench_reader.specs.Reading.{reading}

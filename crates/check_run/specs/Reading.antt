@@ -2,8 +2,8 @@
 -- for the specification's where the netlist is taken: for each once.
 use Rattle.std.specs.Prelude.{◌≡◌, ◌⊎◌, ℕ, List, [], ◌∷◌, codes, Some, None, refl}
 use Rattle.std.proofs.Common.{inl, inr, lit≤}
-use Rattle.netlist.specs.Circuit.{Circuit}
-use Rattle.netlist.specs.Circuits.{half}
+use Rattle.circuits.specs.Circuit.{Circuit}
+use Rattle.circuits.specs.Examples.{half}
 use Rattle.bench_reader.specs.Faults.{fault}
 use Rattle.bench_reader.specs.declared.fault.BenchCause.TheVariants.{Cycle}
 use Rattle.spec_lang.specs.Specification.{Specification, half_adder}

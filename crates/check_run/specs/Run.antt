@@ -1,7 +1,7 @@
 -- What a run does.
 use Rattle.std.specs.Prelude.{◌≡◌, ◌⊎◌, ℕ, Bool, true, false, List, [], ◌∷◌, ◌++◌, map, Some, IsTrue}
 use Rattle.std.specs.Io.KnownBytes.{Appends}
-use Rattle.netlist.specs.Circuit.{Circuit, name_of}
+use Rattle.circuits.specs.Circuit.{Circuit, name_of}
 use Rattle.spec_lang.specs.Specification.{Check, Specification}
 use Rattle.checks.specs.Answer.{answer}
 use Rattle.checks.specs.declared.verdict.Verdict.{Verdict}

@@ -1,8 +1,8 @@
 -- What is answered to a check.
 use Rattle.std.specs.Prelude.{◌≡◌, ℕ, pos, true, false, [], ◌∷◌, codes, Some, slice_get, refl}
 use Rattle.std.proofs.Common.{lit≤}
-use Rattle.netlist.specs.Circuit.{Circuit}
-use Rattle.netlist.specs.Circuits.{half}
+use Rattle.circuits.specs.Circuit.{Circuit}
+use Rattle.circuits.specs.Examples.{half}
 use Rattle.spec_lang.specs.Formula.{number, word, sum}
 use Rattle.spec_lang.specs.Specification.{Check, Specification, half_adder, half_adder_check}
 use Rattle.first_form.specs.FirstForm.{with_usual}

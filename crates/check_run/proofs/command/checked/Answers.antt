@@ -1,7 +1,7 @@
 use Rattle.std.proofs.Common.{◌<◌, sym, subst, arith}
 use Rattle.std.specs.Prelude.{All}
 use Rattle.std.proofs.lemmas.List.Elements.{All-weaker}
-use Rattle.netlist.specs.Circuit.{input_count, net_count}
+use Rattle.circuits.specs.Circuit.{input_count, net_count}
 use Rattle.cone_builder.proofs.NetLaws.{all_inputs}
 use Rattle.check_run.proofs.command.checked.Goals as goal
 
