@@ -6,7 +6,7 @@ use Rattle.bench_reader.specs.Reading.{IsFaultOf, reading}
 use Rattle.bench_reader.specs.declared.fault.BenchError.{BenchError}
 use Rattle.bench_reader.specs.declared.fault.BenchError.TheVariants as bench
 use Rattle.outside.specs.Shelf.{told, IsLonger, IsWhole, Lacks}
-use Rattle.check_run.specs.declared.load.TheConstants.{MOST_BYTES}
+use Rattle.texts.specs.declared.limits.TheConstants.{MOST_BYTES}
 use Rattle.check_run.specs.declared.stop.Stop.{Stop}
 use Rattle.check_run.specs.Files.{IsText, RefusesNetlist, SaysNetlist}
 use Rattle.check_run.specs.Loading.{ComesTo, stop_of_netlist}

@@ -16,7 +16,7 @@ use Rattle.outside.specs.Count.{raised, Rose}
 use Rattle.outside.specs.Shelf.{told, Holds, IsLonger, IsWhole, Lacks}
 use Rattle.outside.specs.Sink.{AppendsPrefix}
 use Rattle.report.specs.declared.refusal.Refusal.{Refusal}
-use Rattle.check_run.specs.declared.load.TheConstants.{MOST_BYTES}
+use Rattle.texts.specs.declared.limits.TheConstants.{MOST_BYTES}
 use Rattle.check_run.specs.declared.status.Status.{Status}
 use Rattle.check_run.specs.declared.status.Status.TheVariants.{Done, Differs, Refused, Limited, ReadFault, WriteFault, NoMemory}
 use Rattle.check_run.specs.Files.{Accepts, IsText, RefusesNetlist, RefusesSpec, SaysNetlist}

@@ -14,7 +14,7 @@ use Rattle.word_base.specs.declared.kind_name.KindName.TheVariants.{Hdd}
 use Rattle.outside.specs.Shelf.{told, Holds, IsLonger, IsWhole}
 use Rattle.report.specs.declared.refusal.Refusal.{Refusal}
 use Rattle.report.specs.declared.refusal.Refusal.TheVariants.{NetlistTooLong, Netlist, SpecTooLong, Spec}
-use Rattle.check_run.specs.declared.load.TheConstants.{MOST_BYTES}
+use Rattle.texts.specs.declared.limits.TheConstants.{MOST_BYTES}
 use Rattle.check_run.specs.Outside.{Files}
 use Rattle.check_run.specs.Words.{Names, check_n_s, n_and_s, names_of}
 

@@ -16,7 +16,7 @@ use Rattle.check_run.specs.declared.status.Status.{Status}
 use Rattle.check_run.specs.declared.status.Status.TheVariants.{WriteFault}
 use Rattle.check_run.specs.declared.stop.Stop.{Stop}
 use Rattle.check_run.specs.declared.stop.Stop.TheVariants as stop
-use Rattle.check_run.specs.declared.load.TheConstants.{MOST_BYTES}
+use Rattle.texts.specs.declared.limits.TheConstants.{MOST_BYTES}
 use Rattle.check_run.specs.Outside.{Files, ShelfSeen, SinkSeen}
 use Rattle.check_run.specs.Reading.{FailsToRead, IsRefused, IsTaken, IsUnread, WantsMemory}
 

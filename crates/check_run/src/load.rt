@@ -13,10 +13,8 @@ use outside::Shelf;
 use report::Refusal;
 use spec_lang::Spec;
 use std::alloc::Global;
+use texts::MOST_BYTES;
 use word_base::KindName;
-
-/// The bytes that a file may have.
-pub const MOST_BYTES: usize = 1_048_576;
 
 /// The whole file of a name, which is refused as `too_long` where it is.
 fn fetch<F: Shelf>(

@@ -7,9 +7,9 @@ ghost use Rattle.circuits.specs.Polynomial.{step, is_negated};
 ghost use Rattle.word_apply.specs.Applied.{AreEdges, CausesOfAll, CausesOfRest, IsFoldOf, IsGateOf};
 
 use crate::gates::{and, not, or, xor};
+use circuits::GateWord;
 use diagram::{Builder, Limit};
 use kind_laws::Edge;
-use circuits::GateWord;
 
 /// One step of a gate's fold, before the negation. NOT and BUFF take none.
 fn one_step(builder: &mut Builder, word: GateWord, a: &Edge, b: &Edge) -> Result<Edge, Limit>

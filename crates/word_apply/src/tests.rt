@@ -5,9 +5,9 @@ ghost use Rattle.spec_lang.specs.WellFormed.{NamesBelow};
 ghost use Rattle.word_apply.specs.Applied.{AreEdges};
 
 use super::*;
+use circuits::GateWord;
 use diagram::{Builder, Limit};
 use kind_laws::Edge;
-use circuits::GateWord;
 use spec_lang::Expr;
 use std::alloc::Global;
 use std::process::Abort;
