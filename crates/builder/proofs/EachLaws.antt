@@ -1,0 +1,65 @@
+-- The level, the parts and the answer of a call on one edge.
+use Rattle.std.proofs.Common.{◌≡◌, refl, sym, ◌∙◌, ap, subst, ℕ, ◌+◌, ◌<◌, ◌≤◌, ◌≢◌, List, [], ◌∷◌, false, length, drop, arith}
+use Rattle.std.specs.Prelude.{Result, Ok, Err}
+use Rattle.std.specs.Result.{IsErrAnd}
+use Rattle.word_base.specs.declared.kind_name.KindName.{KindName}
+use Rattle.word_base.specs.declared.weight.Overflow.{Overflow}
+use Rattle.tables.specs.Table.{Table}
+use Rattle.tables.specs.Fits.{fits}
+use Rattle.tables.specs.Pieces.{Piece, pieces, SomeUnfit}
+use Rattle.tables.proofs.PieceLaws.{Covers}
+use Rattle.kinds.specs.Plain.{PlainEdge, answered}
+use Rattle.builder.specs.Calls.{CanPart, ArePartsOf, IsOfEach, IsOfPart, PartLiesBelow, StandForPart}
+use Rattle.builder.specs.View.{View, StandsAt, IsEdge, top_of, Keeps}
+use Rattle.builder.specs.declared.limit.Limit.{Limit}
+use Rattle.builder.specs.declared.limit.Limit.TheVariants as limit
+use Rattle.builder.proofs.BothLaws.{lies_below}
+use Rattle.builder.proofs.CallLaws.{GoesByHalves, each_from_top}
+use Rattle.builder.proofs.JoinCauses.{answers_overflow, refused}
+use Rattle.builder.proofs.LevelLaws.{leaf_at_end, stands_somewhere, top_within}
+use Rattle.builder.proofs.StoreLaws.{keeps_itself}
+
+-- ---- the level of the edge's node
+pub leaf_at : (k : KindName) (v : View) (a : PlainEdge) (level end : ℕ) → IsEdge k v a → level ≡ top_of v a.node → end ≡ length v.letters → level ≡ end → a.node ≡ 0
+leaf_at k v a level end good is ends same = leaf_at_end k v a good (omega arith)
+
+pub can_part_at : (k : KindName) (v : View) (a : PlainEdge) (level end : ℕ) → IsEdge k v a → level ≡ top_of v a.node → end ≡ length v.letters → (level ≡ end → ⊥) →
+    CanPart k v level a
+can_part_at k v a level end good is ends apart =
+    let within = top_within k v a good in
+    let other : level ≢ end = apart in
+    record { good = good; below = omega arith; not_above = omega arith }
+
+-- ---- parts
+pub part_lies_below : (k : KindName) (v : View) (level : ℕ) (a low high : PlainEdge) → CanPart k v level a → ArePartsOf k v level a (Ok (low, high)) →
+    PartLiesBelow k v level low high
+part_lies_below k v level a low high can are =
+    let below = can.below in
+    let t = stands_somewhere k v a level can.good can.not_above (omega arith) in
+    let stand = are t.0 t.1 in
+    record { within = below; low_lies = lies_below k v level _ low stand.0; high_lies = lies_below k v level _ high stand.1 }
+
+-- an operation on an edge, from what it makes of its parts
+pub each_of_parts : (k : KindName) (op : Table → Table) (work : ℕ → Table → List Piece) (v x y w : View) (a : PlainEdge) (level : ℕ) (low high : PlainEdge)
+    (r : Result PlainEdge Limit) → x ≡ v → y ≡ x → IsEdge k v a → level ≡ top_of v a.node → Keeps y w → GoesByHalves k v op work →
+    ArePartsOf k x level a (Ok (low, high)) → IsOfPart op work k y w level low high r → IsOfEach op work k v w a r
+each_of_parts k op work v x y w a level low high r e f good is keeps halving are of_parts =
+    let here = subst (λ (z : View). ArePartsOf k z level a (Ok (low, high))) e are in
+    let from = subst (λ (z : View). IsOfPart op work k z w level low high r) (f ∙ e) of_parts in
+    each_from_top k v w op work a level r good is (subst (λ (z : View). Keeps z w) (f ∙ e) keeps) halving
+    (λ t h. from t (record { over = h.stands.over; low_stands = (here t h).0; high_stands = (here t h).1 }))
+
+-- the parts of the operand do not fit
+pub each_unfit : (k : KindName) (op : Table → Table) (work : ℕ → Table → List Piece) (v x w : View) (a : PlainEdge) (level : ℕ) (o : Overflow) →
+    x ≡ v → w ≡ x → IsEdge k v a → level ≡ top_of v a.node → GoesByHalves k v op work →
+    ((l : ℕ) (t : Table) → Covers k v.letters (work l t) (pieces l (t ∷ []))) →
+    ArePartsOf k x level a (Err o) → IsOfEach op work k v w a (Err limit.Overflow)
+each_unfit k op work v x w a level o e f good is halving covers are =
+    let here = subst (λ (z : View). ArePartsOf k z level a (Err o)) e are in
+    subst (λ (z : View). IsOfEach op work k v z a (Err limit.Overflow)) (sym (f ∙ e))
+    (each_from_top k v v op work a level (Err limit.Overflow) good is (keeps_itself v) halving
+    (λ t h. answers_overflow k v (work level t) level (op t) ((covers level t).unfit (record { level = level; table = t }, (0, omega arith, refl), here t h))))
+
+pub refused_each : {T : Type 0} (k : KindName) (op : Table → Table) (work : ℕ → Table → List Piece) (v w : View) (a : PlainEdge) (f : T → PlainEdge)
+    (result : Result T Limit) (e : Limit) → IsErrAnd result (λ y. y ≡ e) → IsOfEach op work k v w a (Err e) → IsOfEach op work k v w a (answered f result)
+refused_each k op work v w a f result e is each l t h = refused k v w (work l t) l (op t) f result e is (each l t h)

@@ -1,0 +1,15 @@
+pub mod BothLaws
+pub mod CallLaws
+pub mod DifferenceLaws
+pub mod EachLaws
+pub mod JoinCauses
+pub mod JoinLaws
+pub mod LevelLaws
+pub mod MultipleCalls
+pub mod MultipleLaws
+pub mod PartLaws
+pub mod SameLaws
+pub mod StoreLaws
+pub mod SumCalls
+pub mod SumLaws
+pub mod VariableLaws

@@ -1,0 +1,13 @@
+//! Builders of word-level decision diagrams, over any kind, any letters and any store.
+#![tactic(auto)]
+
+mod builder;
+mod difference;
+mod limit;
+mod multiple;
+mod parts;
+mod sum;
+
+pub use builder::Builder;
+pub use limit::Limit;
+pub use parts::Parts;

@@ -1,0 +1,5 @@
+pub mod BodyLaws
+pub mod GraphLaws
+pub mod ShapeLaws
+pub mod RootedLaws
+pub mod RootLaws

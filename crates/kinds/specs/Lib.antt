@@ -1,0 +1,4 @@
+pub mod Body
+pub mod Graph
+pub mod Kind
+pub mod Plain
