@@ -1,6 +1,6 @@
 -- The level, the parts and the answer of a call on one edge.
 use Rattle.std.proofs.Common.{◌≡◌, refl, sym, ◌∙◌, ap, subst, ℕ, ◌+◌, ◌<◌, ◌≤◌, ◌≢◌, List, [], ◌∷◌, false, length, drop, arith}
-use Rattle.std.specs.Prelude.{Result, Ok, Err}
+use Rattle.std.specs.Prelude.{Result, Ok, Err, IfOk}
 use Rattle.std.specs.Result.{IsErrAnd}
 use Rattle.word_base.specs.declared.kind_name.KindName.{KindName}
 use Rattle.word_base.specs.declared.weight.Overflow.{Overflow}
@@ -9,6 +9,7 @@ use Rattle.tables.specs.Fits.{fits}
 use Rattle.tables.specs.Pieces.{Piece, pieces, SomeUnfit}
 use Rattle.tables.proofs.PieceLaws.{Covers}
 use Rattle.kinds.specs.Plain.{PlainEdge, answered}
+use Rattle.builder.specs.Answers.{Answers}
 use Rattle.builder.specs.Calls.{CanPart, ArePartsOf, IsOfEach, IsOfPart, PartLiesBelow, StandForPart}
 use Rattle.builder.specs.View.{View, StandsAt, IsEdge, top_of, Keeps}
 use Rattle.builder.specs.declared.limit.Limit.{Limit}
@@ -16,7 +17,7 @@ use Rattle.builder.specs.declared.limit.Limit.TheVariants as limit
 use Rattle.builder.proofs.BothLaws.{lies_below}
 use Rattle.builder.proofs.CallLaws.{GoesByHalves, each_from_top}
 use Rattle.builder.proofs.JoinCauses.{answers_overflow, refused}
-use Rattle.builder.proofs.LevelLaws.{leaf_at_end, stands_somewhere, top_within}
+use Rattle.builder.proofs.LevelLaws.{leaf_at_end, good_at, stands_somewhere, top_within}
 use Rattle.builder.proofs.StoreLaws.{keeps_itself}
 
 -- ---- the level of the edge's node
@@ -63,3 +64,9 @@ each_unfit k op work v x w a level o e f good is halving covers are =
 pub refused_each : {T : Type 0} (k : KindName) (op : Table → Table) (work : ℕ → Table → List Piece) (v w : View) (a : PlainEdge) (f : T → PlainEdge)
     (result : Result T Limit) (e : Limit) → IsErrAnd result (λ y. y ≡ e) → IsOfEach op work k v w a (Err e) → IsOfEach op work k v w a (answered f result)
 refused_each k op work v w a f result e is each l t h = refused k v w (work l t) l (op t) f result e is (each l t h)
+
+-- an edge that is answered is good
+pub good_answer : {T : Type 0} (k : KindName) (v w : View) (ps : List Piece) (l : ℕ) (t : Table) (f : T → PlainEdge) (result : Result T Limit) →
+    Answers k v w ps l t (answered f result) → IfOk result (λ x. IsEdge k w (f x))
+good_answer k v w ps l t f (Ok x) answers = good_at k w (f x) l t answers.stands
+good_answer k v w ps l t f (Err e) answers = tt

@@ -7,6 +7,8 @@ mod limit;
 mod multiple;
 mod parts;
 mod sum;
+#[cfg(test)]
+mod tests;
 
 pub use builder::Builder;
 pub use limit::Limit;
