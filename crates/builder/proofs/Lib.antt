@@ -8,7 +8,10 @@ pub mod LevelLaws
 pub mod MultipleCalls
 pub mod MultipleLaws
 pub mod PartLaws
+pub mod ProductCalls
+pub mod ProductLaws
 pub mod SameLaws
+pub mod StepLaws
 pub mod StoreLaws
 pub mod SumCalls
 pub mod SumLaws

@@ -6,6 +6,7 @@ mod difference;
 mod limit;
 mod multiple;
 mod parts;
+mod product;
 mod sum;
 #[cfg(test)]
 mod tests;

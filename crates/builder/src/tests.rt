@@ -13,13 +13,14 @@ use std::process::Abort;
 use std::test::Fail;
 use word_base::{Decomp, Levels, Weight};
 
-/// A linear form in the variables of a builder's levels.
+/// A polynomial in the variables of a builder's levels.
 #[derive(Drop)]
 enum Term<'a> {
     Variable(u16),
     Constant(Weight),
     Sum(&'a Term<'a>, &'a Term<'a>),
     Difference(&'a Term<'a>, &'a Term<'a>),
+    Product(&'a Term<'a>, &'a Term<'a>),
     Multiple(Weight, &'a Term<'a>),
     Negative(&'a Term<'a>),
 }
@@ -52,6 +53,11 @@ impl Term<'_> {
                 let a = a.edge(rt, builder)?;
                 let b = b.edge(rt, builder)?;
                 builder.sub(a, b)
+            }
+            Term::Product(a, b) => {
+                let a = a.edge(rt, builder)?;
+                let b = b.edge(rt, builder)?;
+                builder.mul(a, b)
             }
             Term::Multiple(factor, a) => {
                 let a = a.edge(rt, builder)?;
@@ -100,7 +106,14 @@ fn check_terms<K: Kind>(
     let sum = Term::Sum(&X, &Y);
     let twice = Term::Multiple(Weight::ONE.add(Weight::ONE)?, &sum);
     let negative = Term::Negative(&sum);
+    let product = Term::Product(&X, &Y);
+    let twice_product = Term::Sum(&product, &product);
+    let square = Term::Product(&sum, &sum);
     assert!(rt; are_same(rt, builder, &sum, &Term::Sum(&Y, &X))?);
+    assert!(rt; are_same(rt, builder, &Term::Product(&X, &X), &X)?);
+    assert!(rt; are_same(rt, builder, &product, &Term::Product(&Y, &X))?);
+    assert!(rt; are_same(rt, builder, &square, &Term::Sum(&sum, &twice_product))?);
+    assert!(rt; !are_same(rt, builder, &square, &sum)?);
     assert!(rt; are_same(rt, builder, &Term::Sum(&sum, &sum), &twice)?);
     assert!(rt; are_same(rt, builder, &Term::Difference(&sum, &Y), &X)?);
     assert!(rt; are_same(rt, builder, &negative, &Term::Difference(&zero, &sum))?);

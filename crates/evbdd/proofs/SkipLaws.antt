@@ -1,5 +1,5 @@
 -- The skips of edge-valued diagrams, by ids and by shapes.
-use Rattle.std.proofs.Common.{◌≡◌, refl, sym, ◌∙◌, ap, ℕ, ℤ, pos, ◌-ℤ◌, ◌^◌, true, false, arith}
+use Rattle.std.proofs.Common.{◌≡◌, ◌∙◌, ap, ℕ, ℤ, pos, ◌-ℤ◌, ◌^◌, true, false, arith}
 use Rattle.std.specs.Prelude.{unsigned_abs}
 use Rattle.word_base.specs.Range.{InRange, in_range}
 use Rattle.std.proofs.lemmas.Bool.{false_from_ne_true, lt-ltb}

@@ -2,10 +2,15 @@ ghost use Rattle.std.specs.Prelude.{◌≡◌, ◌↔◌, ℤ, pos, true, IsTrue
 ghost use Rattle.word_base.specs.Kind.{is_allowed};
 ghost use Rattle.word_base.specs.declared.kind_name.KindName.TheVariants.{Evbdd as evbdd};
 ghost use Rattle.kinds.specs.Body.{Reads};
+ghost use Rattle.kinds.specs.Content.{content_of_edge, content_of_fields};
+ghost use Rattle.kinds.specs.EdgeWords.{edge_words, FitsEdge, IsEdgeWords, ReadsEdge};
 ghost use Rattle.kinds.specs.Kind.{IsRooted, Joins, IsNodeBody, HasParts};
 ghost use Rattle.kinds.specs.Plain.{plain, plain_edge, no_extra, plain_joined, constant_edge, answered};
+ghost use Rattle.kinds.specs.Scale.{scale_of, unscaled, MayScale, Scales, shift_of, unshifted, Shifts};
 
-use kinds::{Edge, Fields, Joined, Kind, added_of, children, pack_body};
+use kinds::{
+    Edge, Fields, Joined, Kind, added_of, children, magnitude, pack_body, pack_edge, unpack_edge,
+};
 use std::marker::PhantomData;
 use word_base::{Decomp, KindName, Overflow, Weight};
 
@@ -81,6 +86,62 @@ impl Kind for Evbdd {
         let low = make_edge(edge.weight, low);
         let high = make_edge(high_weight, high);
         Ok((low, high))
+    }
+
+    fn take_scale(edge: Edge<Evbdd>) -> (Weight, Edge<Evbdd>)
+        ensures scale { result.0 ≡ scale_of evbdd (plain no_extra edge).root }
+        ensures rest { plain no_extra result.1 ≡ unscaled evbdd (plain no_extra edge) }
+    {
+        (Weight::ONE, edge)
+    }
+
+    fn put_scale(_scale: Weight, edge: Edge<Evbdd>) -> Result<Edge<Evbdd>, Overflow>
+        requires { MayScale evbdd _scale }
+        ensures { Scales evbdd _scale (plain no_extra edge) (answered (plain no_extra) result) }
+    {
+        Ok(edge)
+    }
+
+    fn take_shift(edge: Edge<Evbdd>) -> (Weight, Edge<Evbdd>)
+        ensures shift { result.0 ≡ shift_of evbdd (plain no_extra edge).root }
+        ensures rest { plain no_extra result.1 ≡ unshifted evbdd (plain no_extra edge) }
+    {
+        (edge.weight, make_edge(Weight::ZERO, edge.node))
+    }
+
+    fn put_shift(shift: Weight, edge: Edge<Evbdd>) -> Result<Edge<Evbdd>, Overflow>
+        ensures { Shifts evbdd shift (plain no_extra edge) (answered (plain no_extra) result) }
+    {
+        let weight = shift.add(edge.weight)?;
+        Ok(make_edge(weight, edge.node))
+    }
+
+    fn pack(edge: Edge<Evbdd>) -> [u64; 5]
+        ensures words { result ≡ edge_words (plain no_extra edge) }
+        ensures fits { FitsEdge evbdd (plain no_extra edge) }
+    {
+        pack_edge(edge.weight, Weight::ZERO, edge.node)
+    }
+
+    fn unpack(words: [u64; 5]) -> Edge<Evbdd>
+        requires { IsEdgeWords evbdd words }
+        ensures { ReadsEdge evbdd words (λ e. plain no_extra result ≡ e) }
+    {
+        let (weight, _, node) = unpack_edge(words);
+        make_edge(weight, node)
+    }
+
+    fn edge_content(edge: Edge<Evbdd>) -> Weight
+        ensures { result ≡ pos (content_of_edge evbdd (plain no_extra edge).root) }
+    {
+        magnitude(edge.weight)
+    }
+
+    fn body_content(body: &[u64; 8]) -> Weight
+        requires { IsNodeBody evbdd body.now }
+        ensures { Reads body.now (λ f. result ≡ pos (content_of_fields evbdd f)) }
+    {
+        magnitude(added_of(body))
     }
 
     ghost extra_tells = { λ x y _. refl };

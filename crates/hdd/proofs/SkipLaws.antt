@@ -1,6 +1,5 @@
 -- The skips of hybrid diagrams, by ids and by shapes.
-use Rattle.std.proofs.Common.{◌≡◌, refl, sym, ◌∙◌, ap, subst, ℕ, pos, List, true, false}
-use Rattle.std.specs.Prelude.{Bool}
+use Rattle.std.proofs.Common.{◌≡◌, refl, ◌∙◌, ap, pos, true, false}
 use Rattle.std.proofs.lemmas.Bool.{false_from_ne_true}
 use Rattle.word_base.specs.declared.decomp.Decomp.{Decomp}
 use Rattle.word_base.specs.declared.decomp.Decomp.TheVariants.{S, P, N}

@@ -2,12 +2,16 @@ ghost use Rattle.std.specs.Prelude.{◌≡◌, ◌↔◌, ℤ, pos, IsTrue};
 ghost use Rattle.word_base.specs.Kind.{is_allowed};
 ghost use Rattle.word_base.specs.declared.kind_name.KindName.TheVariants.{Hdd as hdd};
 ghost use Rattle.kinds.specs.Body.{Reads};
+ghost use Rattle.kinds.specs.Content.{content_of_edge, content_of_fields};
+ghost use Rattle.kinds.specs.EdgeWords.{edge_words, FitsEdge, IsEdgeWords, ReadsEdge};
 ghost use Rattle.kinds.specs.Kind.{IsRooted, Joins, IsNodeBody, HasParts};
 ghost use Rattle.kinds.specs.Plain.{plain, plain_edge, no_extra, plain_joined, constant_edge, answered};
+ghost use Rattle.kinds.specs.Scale.{scale_of, unscaled, MayScale, Scales, shift_of, unshifted, MayShift, Shifts};
 ghost use Rattle.hdd.specs.Skips.{IsSkip};
 
 use kinds::{
-    Edge, Fields, Joined, Kind, children, high_weight_of, low_weight_of, pack_body,
+    Edge, Fields, Joined, Kind, children, high_weight_of, low_weight_of, pack_body, pack_edge,
+    gcd, magnitude, unpack_edge,
 };
 use std::marker::PhantomData;
 use word_base::{Decomp, KindName, Overflow, Weight};
@@ -84,6 +88,62 @@ impl Kind for Hdd {
         let low = edge(low_weight_of(body), low);
         let high = edge(high_weight_of(body), high);
         Ok((low, high))
+    }
+
+    fn take_scale(edge: Edge<Hdd>) -> (Weight, Edge<Hdd>)
+        ensures scale { result.0 ≡ scale_of hdd (plain no_extra edge).root }
+        ensures rest { plain no_extra result.1 ≡ unscaled hdd (plain no_extra edge) }
+    {
+        (Weight::ONE, edge)
+    }
+
+    fn put_scale(_scale: Weight, edge: Edge<Hdd>) -> Result<Edge<Hdd>, Overflow>
+        requires { MayScale hdd _scale }
+        ensures { Scales hdd _scale (plain no_extra edge) (answered (plain no_extra) result) }
+    {
+        Ok(edge)
+    }
+
+    fn take_shift(edge: Edge<Hdd>) -> (Weight, Edge<Hdd>)
+        ensures shift { result.0 ≡ shift_of hdd (plain no_extra edge).root }
+        ensures rest { plain no_extra result.1 ≡ unshifted hdd (plain no_extra edge) }
+    {
+        (Weight::ZERO, edge)
+    }
+
+    fn put_shift(_shift: Weight, edge: Edge<Hdd>) -> Result<Edge<Hdd>, Overflow>
+        requires { MayShift hdd _shift }
+        ensures { Shifts hdd _shift (plain no_extra edge) (answered (plain no_extra) result) }
+    {
+        Ok(edge)
+    }
+
+    fn pack(edge: Edge<Hdd>) -> [u64; 5]
+        ensures words { result ≡ edge_words (plain no_extra edge) }
+        ensures fits { FitsEdge hdd (plain no_extra edge) }
+    {
+        pack_edge(edge.weight, Weight::ZERO, edge.node)
+    }
+
+    fn unpack(words: [u64; 5]) -> Edge<Hdd>
+        requires { IsEdgeWords hdd words }
+        ensures { ReadsEdge hdd words (λ e. plain no_extra result ≡ e) }
+    {
+        let (weight, _, node) = unpack_edge(words);
+        edge(weight, node)
+    }
+
+    fn edge_content(edge: Edge<Hdd>) -> Weight
+        ensures { result ≡ pos (content_of_edge hdd (plain no_extra edge).root) }
+    {
+        magnitude(edge.weight)
+    }
+
+    fn body_content(body: &[u64; 8]) -> Weight
+        requires { IsNodeBody hdd body.now }
+        ensures { Reads body.now (λ f. result ≡ pos (content_of_fields hdd f)) }
+    {
+        gcd(low_weight_of(body), high_weight_of(body))
     }
 
     ghost extra_tells = { λ x y _. refl };

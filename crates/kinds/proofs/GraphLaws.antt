@@ -16,7 +16,7 @@ use Rattle.tables.proofs.TableLaws.{IsOver-merged}
 use Rattle.tables.proofs.TreeLaws.{is_at, IsOver-table, table-above}
 use Rattle.kinds.specs.declared.fields.Fields.{Fields}
 use Rattle.kinds.specs.Body.{body_of, FitsBody, low_weights, high_weights}
-use Rattle.kinds.specs.Graph.{Lookup, HasNode, HasShape, StandsFor, Extends}
+use Rattle.kinds.specs.Graph.{Lookup, HasShape, StandsFor, Extends}
 use Rattle.kinds.proofs.BodyLaws.{body_of-tells, node_tells}
 
 -- ---- shapes

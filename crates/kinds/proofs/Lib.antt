@@ -1,5 +1,9 @@
 pub mod BodyLaws
+pub mod ContentLaws
+pub mod EdgeLaws
+mod GcdLaws
 pub mod GraphLaws
-pub mod ShapeLaws
-pub mod RootedLaws
 pub mod RootLaws
+pub mod RootedLaws
+pub mod ScaleLaws
+pub mod ShapeLaws

@@ -1,5 +1,5 @@
 -- The weights of an edge that stands for a table are normal.
-use Rattle.std.proofs.Common.{◌≡◌, refl, sym, ◌∙◌, ap, subst, ℕ, ◌+◌, ℤ, pos, ◌-ℤ◌, List, ◌∷◌, true, false, length, arith, inl, inr}
+use Rattle.std.proofs.Common.{◌≡◌, refl, sym, ◌∙◌, ap, subst, ℕ, ◌+◌, ℤ, pos, ◌-ℤ◌, List, true, false, arith, inl, inr}
 use Rattle.std.specs.Prelude.{None, ◌⊎◌}
 use Rattle.std.proofs.lemmas.Int.{ints}
 use Rattle.integers.proofs.SignedGcd.{signed_gcd-is_zero}
@@ -55,25 +55,22 @@ weightless_leaf = by_joins KStarBmd (λ t. t.root.weight ≡ pos 0 → t.shape �
 by_kind : (k : KindName) (find : Lookup) (ds : List Decomp) (l : ℕ) (t : Tree) (root : Weights) (id : ℕ) → are_allowed k ds ≡ true → find 0 ≡ None →
     IsCanonical k ds l t → root ≡ t.root → HasShape k find id t.shape → IsRooted k (record { root = root; node = id })
 by_kind Evbdd find ds l t root id allowed no_zero c is h = ap (λ (w : Weights). w.extra) is ∙ no_extra Evbdd refl ds l t allowed c
-by_kind StarBmd find ds l t root id allowed no_zero c is h =
-    (
-      ap (λ (w : Weights). w.extra) is ∙ no_extra StarBmd refl ds l t allowed c,
-      λ e. subst (HasShape StarBmd find id) (ap (λ (u : Tree). u.shape) (weightless ds l t allowed c (ap (λ (w : Weights). w.weight) (sym is) ∙ e))) h,
-    )
-by_kind Hdd find ds l t root id allowed no_zero c is h =
-    (
-      ap (λ (w : Weights). w.extra) is ∙ no_extra Hdd refl ds l t allowed c,
-      λ apart. elim (node_weight ds l t allowed c) [
-        | inl e ↦ absurd (apart (subst (HasShape Hdd find id) e h))
-        | inr e ↦ ap (λ (w : Weights). w.weight) is ∙ e
-      ],
-    )
-by_kind KStarBmd find ds l t root id allowed no_zero c is h =
-    (
-      λ e. subst (HasShape KStarBmd find id) (weightless_leaf ds l t allowed c (ap (λ (w : Weights). w.weight) (sym is) ∙ e)) h,
-      λ z. ap (λ (w : Weights). w.weight) is
+by_kind StarBmd find ds l t root id allowed no_zero c is h = (
+  ap (λ (w : Weights). w.extra) is ∙ no_extra StarBmd refl ds l t allowed c,
+  λ e. subst (HasShape StarBmd find id) (ap (λ (u : Tree). u.shape) (weightless ds l t allowed c (ap (λ (w : Weights). w.weight) (sym is) ∙ e))) h,
+)
+by_kind Hdd find ds l t root id allowed no_zero c is h = (
+  ap (λ (w : Weights). w.extra) is ∙ no_extra Hdd refl ds l t allowed c,
+  λ apart. elim (node_weight ds l t allowed c) [
+    | inl e ↦ absurd (apart (subst (HasShape Hdd find id) e h))
+    | inr e ↦ ap (λ (w : Weights). w.weight) is ∙ e
+  ],
+)
+by_kind KStarBmd find ds l t root id allowed no_zero c is h = (
+  λ e. subst (HasShape KStarBmd find id) (weightless_leaf ds l t allowed c (ap (λ (w : Weights). w.weight) (sym is) ∙ e)) h,
+  λ z. ap (λ (w : Weights). w.weight) is
       ∙ ap (λ (u : Tree). u.root.weight) (leaves KStarBmd ds l t allowed c (leaf_of_zero KStarBmd find no_zero t.shape (subst (λ (i : ℕ). HasShape KStarBmd find i t.shape) z h))).1,
-    )
+)
 
 pub rooted : (k : KindName) (find : Lookup) (ds : List Decomp) (l : ℕ) (t : Table) (root : Weights) (id : ℕ) → are_allowed k ds ≡ true → find 0 ≡ None →
     StandsFor k find ds l t root id → IsRooted k (record { root = root; node = id })

@@ -1,5 +1,5 @@
 -- Edges over the shapes under their ids.
-use Rattle.std.proofs.Common.{◌≡◌, sym, ◌∙◌, ap, ℕ}
+use Rattle.std.proofs.Common.{◌≡◌, ◌∙◌, ap, ℕ}
 use Rattle.tables.specs.Tree.{Weights, Shape, leaf, Tree}
 use Rattle.kinds.specs.Kind.{AreShapes}
 use Rattle.kinds.specs.Plain.{PlainEdge, over_shape}

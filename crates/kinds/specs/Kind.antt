@@ -1,12 +1,12 @@
 -- What the calls of a kind answer, by the definitions for its name.
-use Rattle.std.specs.Prelude.{◌≡◌, ◌≢◌, ℕ, ℤ, pos, ◌*ℤ◌, Bool, true, false, ◌&&◌, ◌↔◌, List, Result, MatchResult}
+use Rattle.std.specs.Prelude.{◌≡◌, ◌≢◌, ℕ, pos, ◌*ℤ◌, Bool, true, false, ◌&&◌, ◌↔◌, List, Result, MatchResult}
 use Rattle.word_base.specs.Range.{in_range}
 use Rattle.word_base.specs.declared.decomp.Decomp.{Decomp}
 use Rattle.word_base.specs.declared.decomp.Decomp.TheVariants.{S, P, N}
 use Rattle.word_base.specs.declared.kind_name.KindName.{KindName}
 use Rattle.word_base.specs.declared.kind_name.KindName.TheVariants.{Evbdd, StarBmd, Hdd, KStarBmd}
 use Rattle.word_base.specs.declared.weight.Overflow.{Overflow}
-use Rattle.tables.specs.Tree.{Weights, Shape, leaf, node, Tree, skips, node_join}
+use Rattle.tables.specs.Tree.{Weights, Shape, leaf, node, skips, node_join}
 use Rattle.tables.specs.Parts.{low_edge, high_edge}
 use Rattle.tables.specs.Fits.{weights_in_range, difference_in_range}
 use Rattle.kinds.specs.Body.{body_of, FitsBody, low_weights, high_weights, LeavesZeros}

@@ -1,29 +1,9 @@
-ghost use Rattle.std.specs.Prelude.{◌≡◌, ℕ, ◌+◌, ◌*◌, ◌/◌, ◌%◌, ◌^◌, ◌<◌, ℤ, List, slice_index};
-ghost use Rattle.std.specs.Int.{w128, cast_unsigned};
+ghost use Rattle.std.specs.Prelude.{◌≡◌};
 ghost use Rattle.kinds.specs.Body.{body_of, FitsBody, IsBody, Reads};
-ghost use Rattle.word_base.specs.Range.{InRange};
 
 use crate::fields::Fields;
+use crate::words::{weight_of, words_of};
 use word_base::Weight;
-
-/// A weight as two words, the lower first: its two's complement in 128 bits.
-fn words_of(weight: Weight) -> (u64, u64)
-    ensures in_range { InRange weight }
-    ensures low { result.0 ≡ cast_unsigned w128 weight % 2 ^ 64 }
-    ensures high { result.1 ≡ cast_unsigned w128 weight / 2 ^ 64 }
-{
-    let bits = weight.get().cast_unsigned();
-    ((bits % (1 << 64)) as u64, (bits >> 64) as u64)
-}
-
-/// The weight of two words that a weight made.
-fn weight_of(low: u64, high: u64) -> Weight
-    requires { (z : ℤ) × InRange z × (cast_unsigned w128 z ≡ low + 2 ^ 64 * high) }
-    ensures { (z : ℤ) → InRange z → cast_unsigned w128 z ≡ low + 2 ^ 64 * high → result ≡ z }
-{
-    let bits = (u128::from(high) << 64) + u128::from(low);
-    Weight::new(bits.cast_signed()).unwrap()
-}
 
 /// The body of a node.
 pub fn pack_body(fields: Fields) -> [u64; 8]

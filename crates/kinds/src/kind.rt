@@ -1,9 +1,12 @@
-ghost use Rattle.std.specs.Prelude.{◌≡◌, ◌↔◌, ℕ, ℤ, true, IsTrue};
+ghost use Rattle.std.specs.Prelude.{◌≡◌, ◌↔◌, ℕ, ℤ, pos, true, IsTrue};
 ghost use Rattle.word_base.specs.Kind.{is_allowed};
 ghost use Rattle.word_base.specs.declared.kind_name.KindName.{KindName};
 ghost use Rattle.kinds.specs.Body.{Reads};
 ghost use Rattle.kinds.specs.Kind.{IsRooted, Joins, IsNodeBody, HasParts};
+ghost use Rattle.kinds.specs.Content.{content_of_edge, content_of_fields};
+ghost use Rattle.kinds.specs.EdgeWords.{edge_words, FitsEdge, IsEdgeWords, ReadsEdge};
 ghost use Rattle.kinds.specs.Plain.{PlainEdge, plain, plain_joined, constant_edge, answered};
+ghost use Rattle.kinds.specs.Scale.{scale_of, unscaled, MayScale, Scales, shift_of, unshifted, MayShift, Shifts};
 
 use std::marker::PhantomData;
 use word_base::{Decomp, KindName, Overflow, Weight};
@@ -73,6 +76,45 @@ pub trait Kind: Copy + Eq + Send + Sync {
         requires body { IsNodeBody NAME body.now }
         ensures { Reads body.now (λ f. HasParts NAME letter (plain extra_of edge).root f
             (answered (λ p. (plain extra_of p.0, plain extra_of p.1)) result)) };
+
+    /// The factor of an edge, and the edge that is left without it.
+    fn take_scale(edge: Edge<Self>) -> (Weight, Edge<Self>)
+        ensures scale { result.0 ≡ scale_of NAME (plain extra_of edge).root }
+        ensures rest { plain extra_of result.1 ≡ unscaled NAME (plain extra_of edge) };
+
+    /// The edge of the multiple.
+    fn put_scale(scale: Weight, edge: Edge<Self>) -> Result<Edge<Self>, Overflow>
+        requires { MayScale NAME scale }
+        ensures { Scales NAME scale (plain extra_of edge) (answered (plain extra_of) result) };
+
+    /// The summand of an edge, and the edge that is left without it.
+    fn take_shift(edge: Edge<Self>) -> (Weight, Edge<Self>)
+        ensures shift { result.0 ≡ shift_of NAME (plain extra_of edge).root }
+        ensures rest { plain extra_of result.1 ≡ unshifted NAME (plain extra_of edge) };
+
+    /// The edge of the sum.
+    fn put_shift(shift: Weight, edge: Edge<Self>) -> Result<Edge<Self>, Overflow>
+        requires { MayShift NAME shift }
+        ensures { Shifts NAME shift (plain extra_of edge) (answered (plain extra_of) result) };
+
+    /// The five words of an edge.
+    fn pack(edge: Edge<Self>) -> [u64; 5]
+        ensures words { result ≡ edge_words (plain extra_of edge) }
+        ensures fits { FitsEdge NAME (plain extra_of edge) };
+
+    /// The edge whose words these are.
+    fn unpack(words: [u64; 5]) -> Edge<Self>
+        requires { IsEdgeWords NAME words }
+        ensures { ReadsEdge NAME words (λ e. plain extra_of result ≡ e) };
+
+    /// The content of an edge's weights.
+    fn edge_content(edge: Edge<Self>) -> Weight
+        ensures { result ≡ pos (content_of_edge NAME (plain extra_of edge).root) };
+
+    /// The content of a node's weights.
+    fn body_content(body: &[u64; 8]) -> Weight
+        requires { IsNodeBody NAME body.now }
+        ensures { Reads body.now (λ f. result ≡ pos (content_of_fields NAME f)) };
 
     /// An additive weight is told by its number.
     ghost extra_tells: { (x y : Self.Extra) → extra_of x ≡ extra_of y → x ≡ y };

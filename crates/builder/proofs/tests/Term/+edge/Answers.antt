@@ -24,6 +24,16 @@ sub-requires-clause-a_good g t c κs within =
     still_edge g.K.Kind.NAME c.edge-in-Difference.new.builder c.edge-in-Difference-2.new.builder (plain g.K.Kind.extra_of c.in_ok-a-in-Difference.a)
     c.in_ok-b-in-Difference.ensures.keeps c.in_ok-a-in-Difference.ensures.good
 
+pub returns-in_err-b-in-Product-clause-keeps : goal.returns-in_err-b-in-Product-clause-keeps
+returns-in_err-b-in-Product-clause-keeps g t c =
+    keeps_on c.args.builder.now c.edge-in-Product.new.builder c.edge-in-Product-2.new.builder c.in_ok-a-in-Product.ensures.keeps
+    c.in_err-b-in-Product.ensures.keeps
+
+pub mul-requires-clause-a_good : goal.mul-requires-clause-a_good
+mul-requires-clause-a_good g t c κs within =
+    still_edge g.K.Kind.NAME c.edge-in-Product.new.builder c.edge-in-Product-2.new.builder (plain g.K.Kind.extra_of c.in_ok-a-in-Product.a)
+    c.in_ok-b-in-Product.ensures.keeps c.in_ok-a-in-Product.ensures.good
+
 pub returns-in-Constant-clause-keeps : goal.returns-in-Constant-clause-keeps
 returns-in-Constant-clause-keeps g t c = keeps_itself c.args.builder.now
 
@@ -57,6 +67,21 @@ returns-in_ok-b-in-Difference-clause-good g t c =
     c.in_ok-a-in-Difference.ensures.good in
     let b = c.in_ok-b-in-Difference.ensures.good in
     good_answer k w c.sub.new.self _ 0 _ (plain g.K.Kind.extra_of) c.sub.result (c.sub.ensures.difference 0 a.0 b.0 a.1 b.1)
+
+pub returns-in_ok-b-in-Product-clause-keeps : goal.returns-in_ok-b-in-Product-clause-keeps
+returns-in_ok-b-in-Product-clause-keeps g t c =
+    keeps_on c.args.builder.now c.edge-in-Product-2.new.builder c.mul.new.self
+    (keeps_on c.args.builder.now c.edge-in-Product.new.builder c.edge-in-Product-2.new.builder c.in_ok-a-in-Product.ensures.keeps
+    c.in_ok-b-in-Product.ensures.keeps) c.mul.ensures.keeps
+
+pub returns-in_ok-b-in-Product-clause-good : goal.returns-in_ok-b-in-Product-clause-good
+returns-in_ok-b-in-Product-clause-good g t c =
+    let k = g.K.Kind.NAME in
+    let w = c.edge-in-Product-2.new.builder in
+    let a = still_edge k c.edge-in-Product.new.builder w (plain g.K.Kind.extra_of c.in_ok-a-in-Product.a) c.in_ok-b-in-Product.ensures.keeps
+    c.in_ok-a-in-Product.ensures.good in
+    let b = c.in_ok-b-in-Product.ensures.good in
+    good_answer k w c.mul.new.self _ 0 _ (plain g.K.Kind.extra_of) c.mul.result (c.mul.ensures.product 0 a.0 b.0 a.1 b.1)
 
 pub returns-in_ok-a-in-Multiple-clause-keeps : goal.returns-in_ok-a-in-Multiple-clause-keeps
 returns-in_ok-a-in-Multiple-clause-keeps g t c =

@@ -1,4 +1,4 @@
-use Rattle.std.proofs.Common.{◌≡◌, refl, sym, ◌∙◌, ap, pos, ◌-ℤ◌}
+use Rattle.std.proofs.Common.{refl, sym, ◌∙◌, pos, ◌-ℤ◌}
 use Rattle.evbdd.proofs.SkipLaws.{skip_told, no_skip, in_range_if, node_is}
 use Rattle.evbdd.proofs.evbdd.EvbddKind.join.Goals as goal
 
@@ -6,12 +6,11 @@ pub returns-then-is_skip : goal.returns-then-is_skip
 returns-then-is_skip c = (
   in_range_if (c.args.high.weight -ℤ c.args.low.weight) c.in_ok-added.ensures.0,
   record {
-    joins = λ s r shapes.
-        (
-          skip_told c.args.letter c.args.low.weight c.args.high.weight c.args.low.node c.args.high.node s r shapes (c.is_skip.ensures.0 c.if-is_skip.true).0
-              (sym c.in_ok-added.ensures.1 ∙ (c.is_skip.ensures.0 c.if-is_skip.true).1),
-          refl,
-        );
+    joins = λ s r shapes. (
+      skip_told c.args.letter c.args.low.weight c.args.high.weight c.args.low.node c.args.high.node s r shapes (c.is_skip.ensures.0 c.if-is_skip.true).0
+          (sym c.in_ok-added.ensures.1 ∙ (c.is_skip.ensures.0 c.if-is_skip.true).1),
+      refl,
+    );
   },
 )
 
