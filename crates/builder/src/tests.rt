@@ -98,10 +98,7 @@ fn are_same<K: Kind>(
     Ok(builder.same(one, other))
 }
 
-fn check_terms<K: Kind>(
-    rt: &impl Abort,
-    builder: &mut Builder<K, SoloStore>,
-) -> Result<(), Fail> {
+fn check_terms<K: Kind>(rt: &impl Abort, builder: &mut Builder<K, SoloStore>) -> Result<(), Fail> {
     let zero = Term::Constant(Weight::ZERO);
     let sum = Term::Sum(&X, &Y);
     let twice = Term::Multiple(Weight::ONE.add(Weight::ONE)?, &sum);
@@ -131,15 +128,17 @@ fn terms_with_one_meaning_have_one_edge(rt: HostRuntime) -> Result<(), Fail> {
     check_terms(&rt, &mut two_levels::<Evbdd>(rt.alloc(), Decomp::S, 100)?)
 }
 
-fn check_causes<K: Kind>(
-    rt: &impl Abort,
-    builder: &mut Builder<K, SoloStore>,
-) -> Result<(), Fail> {
+fn check_causes<K: Kind>(rt: &impl Abort, builder: &mut Builder<K, SoloStore>) -> Result<(), Fail> {
     let greatest = Term::Constant(Weight::MAX);
     let sum = Term::Sum(&greatest, &X);
     assert!(rt; matches!(X.edge(rt, builder), Ok(_)));
     assert!(rt; matches!(Y.edge(rt, builder), Err(Limit::Full)));
-    assert!(rt; matches!(Term::Sum(&greatest, &greatest).edge(rt, builder), Err(Limit::Overflow)));
+    assert!(rt;
+        matches!(
+            Term::Sum(&greatest, &greatest).edge(rt, builder),
+            Err(Limit::Overflow)
+        )
+    );
     assert!(rt; matches!(Term::Negative(&sum).edge(rt, builder), Err(_)));
     Ok(())
 }

@@ -10,8 +10,8 @@ ghost use Rattle.kinds.specs.Scale.{scale_of, unscaled, MayScale, Scales, shift_
 ghost use Rattle.hdd.specs.Skips.{IsSkip};
 
 use kinds::{
-    Edge, Fields, Joined, Kind, children, high_weight_of, low_weight_of, pack_body, pack_edge,
-    gcd, magnitude, unpack_edge,
+    Edge, Fields, Joined, Kind, children, gcd, high_weight_of, low_weight_of, magnitude, pack_body,
+    pack_edge, unpack_edge,
 };
 use std::marker::PhantomData;
 use word_base::{Decomp, KindName, Overflow, Weight};
