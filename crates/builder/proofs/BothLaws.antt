@@ -1,12 +1,12 @@
 -- Constants of two operands, and the parts of both.
-use Rattle.std.proofs.Common.{◌≡◌, refl, sym, ◌∙◌, ap, subst, ℕ, zero, suc, ◌+◌, ◌-◌, ◌*◌, ◌<◌, ◌≤◌, ◌≢◌, ℤ, List, [], ◌∷◌, true, false, length, drop, min, arith, inl, inr}
-use Rattle.std.specs.Prelude.{None, Result, Ok, Err, IsErr, MatchResult, IfOk}
+use Rattle.std.proofs.Common.{◌≡◌, refl, sym, ◌∙◌, ap, subst, ℕ, zero, suc, ◌+◌, ◌≤◌, ◌≢◌, ℤ, List, [], ◌∷◌, true, false, length, drop, min, arith}
+use Rattle.std.specs.Prelude.{None, Result, Ok, Err, IsErr, MatchResult}
 use Rattle.std.specs.Result.{OkIff}
 use Rattle.word_base.specs.Range.{InRange}
 use Rattle.word_base.specs.declared.kind_name.KindName.{KindName}
 use Rattle.word_base.specs.declared.weight.Overflow.{Overflow}
 use Rattle.record_store.specs.StoreView.{find_in}
-use Rattle.tables.specs.Table.{Table, entry, halves, IsOver, each, zip_with, constant_table}
+use Rattle.tables.specs.Table.{Table, each, zip_with, constant_table}
 use Rattle.tables.specs.Tree.{Weights, constant}
 use Rattle.tables.specs.Fits.{fits}
 use Rattle.tables.specs.Laws.{are_allowed}
@@ -17,10 +17,9 @@ use Rattle.kinds.specs.Graph.{StandsFor}
 use Rattle.kinds.specs.Plain.{PlainEdge, constant_edge, answered}
 use Rattle.kinds.proofs.GraphLaws.{same_table_of_edge, constant_of_leaf}
 use Rattle.builder.specs.Answers.{Answers}
-use Rattle.builder.specs.Calls.{CanPart, LiesBelow, LieBelow, PlainParts, StandForParts, ArePartsOfBoth, IsConstantOf, CanJoin}
-use Rattle.builder.specs.View.{View, letter_at, StandsAt, IsEdge, top_of, Keeps}
+use Rattle.builder.specs.Calls.{CanPart, LiesBelow, LieBelow, PlainParts, ArePartsOfBoth, IsConstantOf}
+use Rattle.builder.specs.View.{View, StandsAt, IsEdge, top_of}
 use Rattle.builder.specs.declared.limit.Limit.{Limit}
-use Rattle.builder.specs.declared.limit.Limit.TheVariants as limit
 use Rattle.builder.proofs.LevelLaws.{allowed_from, from_level, leaf_at_end, good_at, stands_somewhere, top_within}
 use Rattle.builder.proofs.PartLaws.{constant_stands}
 use Rattle.builder.proofs.JoinCauses.{answers_at_once, answers_overflow}

@@ -1,16 +1,15 @@
 -- How the answers of calls that follow one another make that of the whole, and how an answer at one level is one at the levels above.
-use Rattle.std.proofs.Common.{◌≡◌, refl, sym, ◌∙◌, ap, subst, ℕ, zero, suc, ◌+◌, ◌-◌, ◌<◌, ◌≤◌, List, [], ◌∷◌, length, drop, min, arith, inl, inr}
-use Rattle.std.specs.Prelude.{Result, Ok, Err, ◌⊎◌, IfOk}
-use Rattle.std.specs.List.{Contains}
+use Rattle.std.proofs.Common.{◌≡◌, sym, ◌∙◌, subst, ℕ, zero, suc, ◌+◌, ◌-◌, ◌<◌, ◌≤◌, List, [], ◌∷◌, length, drop, min, arith, inl, inr}
+use Rattle.std.specs.Prelude.{Result, Ok, Err, IfOk}
 use Rattle.word_base.specs.declared.decomp.Decomp.{Decomp}
 use Rattle.word_base.specs.declared.kind_name.KindName.{KindName}
 use Rattle.record_store.specs.StoreView.{find_in}
 use Rattle.tables.specs.Table.{Table, halves, IsOver}
-use Rattle.tables.specs.Pieces.{Piece, pieces, InNodes, SomeUnfit}
+use Rattle.tables.specs.Pieces.{Piece, pieces, InNodes}
 use Rattle.tables.proofs.PieceLaws.{Covers}
 use Rattle.kinds.specs.Plain.{PlainEdge}
 use Rattle.kinds.proofs.GraphLaws.{HasShape-extends}
-use Rattle.builder.specs.Answers.{HasNodeShape, Makes, HasCause, Answers}
+use Rattle.builder.specs.Answers.{Makes, HasCause, Answers}
 use Rattle.builder.specs.Calls.{IsOfEach, IsOfBoth, IsOfParts, PlainParts, ArePartsOfBoth}
 use Rattle.builder.specs.View.{View, StandsAt, IsEdge, top_of, Keeps}
 use Rattle.builder.specs.declared.limit.Limit.{Limit}

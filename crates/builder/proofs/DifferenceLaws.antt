@@ -1,5 +1,5 @@
 -- A difference is the sum with the negative.
-use Rattle.std.proofs.Common.{◌≡◌, refl, sym, ◌∙◌, ap, subst, ℕ, zero, suc, ◌+ℤ◌, ◌-ℤ◌, List, [], ◌∷◌, length, drop}
+use Rattle.std.proofs.Common.{◌≡◌, refl, subst, ℕ, zero, suc, List, [], ◌∷◌, length, drop}
 use Rattle.std.specs.Prelude.{Result, Ok, Err}
 use Rattle.std.specs.Result.{IsErrAnd}
 use Rattle.word_base.specs.declared.decomp.Decomp.{Decomp}
@@ -11,7 +11,7 @@ use Rattle.tables.proofs.TableLaws.{both_halves}
 use Rattle.kinds.specs.Plain.{PlainEdge, answered}
 use Rattle.builder.specs.Answers.{Answers}
 use Rattle.builder.specs.Calls.{IsOfEach, IsOfBoth}
-use Rattle.builder.specs.View.{View, StandsAt, Keeps}
+use Rattle.builder.specs.View.{View, Keeps}
 use Rattle.builder.specs.declared.limit.Limit.{Limit}
 use Rattle.builder.proofs.CallLaws.{ran_nothing, ran_then, answers_then, refuses_then}
 use Rattle.builder.proofs.JoinCauses.{refused}

@@ -1,17 +1,16 @@
 -- The level, the parts and the answer of a call on one edge.
-use Rattle.std.proofs.Common.{◌≡◌, refl, sym, ◌∙◌, ap, subst, ℕ, ◌+◌, ◌<◌, ◌≤◌, ◌≢◌, List, [], ◌∷◌, false, length, drop, arith}
+use Rattle.std.proofs.Common.{◌≡◌, refl, sym, ◌∙◌, subst, ℕ, ◌≢◌, List, [], ◌∷◌, length, arith}
 use Rattle.std.specs.Prelude.{Result, Ok, Err, IfOk}
 use Rattle.std.specs.Result.{IsErrAnd}
 use Rattle.word_base.specs.declared.kind_name.KindName.{KindName}
 use Rattle.word_base.specs.declared.weight.Overflow.{Overflow}
 use Rattle.tables.specs.Table.{Table}
-use Rattle.tables.specs.Fits.{fits}
-use Rattle.tables.specs.Pieces.{Piece, pieces, SomeUnfit}
+use Rattle.tables.specs.Pieces.{Piece, pieces}
 use Rattle.tables.proofs.PieceLaws.{Covers}
 use Rattle.kinds.specs.Plain.{PlainEdge, answered}
 use Rattle.builder.specs.Answers.{Answers}
-use Rattle.builder.specs.Calls.{CanPart, ArePartsOf, IsOfEach, IsOfPart, PartLiesBelow, StandForPart}
-use Rattle.builder.specs.View.{View, StandsAt, IsEdge, top_of, Keeps}
+use Rattle.builder.specs.Calls.{CanPart, ArePartsOf, IsOfEach, IsOfPart, PartLiesBelow}
+use Rattle.builder.specs.View.{View, IsEdge, top_of, Keeps}
 use Rattle.builder.specs.declared.limit.Limit.{Limit}
 use Rattle.builder.specs.declared.limit.Limit.TheVariants as limit
 use Rattle.builder.proofs.BothLaws.{lies_below}

@@ -1,6 +1,6 @@
 -- Which node a join makes, and when it refuses.
-use Rattle.std.proofs.Common.{◌≡◌, refl, sym, ◌∙◌, ap, subst, ℕ, zero, suc, ◌+◌, ◌<◌, ◌≤◌, List, [], ◌∷◌, ◌++◌, true, false, length, drop, arith, inl, inr}
-use Rattle.std.specs.Prelude.{Some, None, Result, Ok, Err, ◌⊎◌, IfOk, IsTrue, IsErr}
+use Rattle.std.proofs.Common.{◌≡◌, refl, sym, ◌∙◌, ap, subst, ℕ, zero, suc, ◌+◌, ◌<◌, ◌≤◌, List, [], ◌∷◌, true, false, length, drop, arith, inl, inr}
+use Rattle.std.specs.Prelude.{Some, Result, Ok, Err, IfOk, IsErr}
 use Rattle.std.specs.FinMap as map
 use Rattle.std.specs.List.{Contains}
 use Rattle.std.specs.Ordering.{nat_cmp}
@@ -10,10 +10,10 @@ use Rattle.std.proofs.lemmas.List.Elements.{Contains-append_cases}
 use Rattle.word_base.specs.declared.decomp.Decomp.{Decomp}
 use Rattle.word_base.specs.declared.kind_name.KindName.{KindName}
 use Rattle.record_store.specs.StoreView.{StoreView, find_in, HasBody}
-use Rattle.record_store.specs.Interns.{Interns, MadeBy}
+use Rattle.record_store.specs.Interns.{Interns}
 use Rattle.record_store.specs.declared.store.StoreFull.{StoreFull}
-use Rattle.tables.specs.Table.{Table, IsOver, part0, part1, merged}
-use Rattle.tables.specs.Tree.{Weights, Shape, leaf, node, Tree, tjoin}
+use Rattle.tables.specs.Table.{Table, merged}
+use Rattle.tables.specs.Tree.{Weights, Shape, leaf, node, Tree}
 use Rattle.tables.specs.Canonical.{canonical, IsNodeOf}
 use Rattle.tables.specs.Fits.{difference_in_range, fits}
 use Rattle.tables.specs.Pieces.{Piece, InNodes, SomeUnfit, join_work}
@@ -21,14 +21,14 @@ use Rattle.tables.proofs.CanonicalLaws.{allowed_below, canonical-merged}
 use Rattle.kinds.proofs.RootLaws.{root_at, fits_difference}
 use Rattle.tables.proofs.TableLaws.{IsOver-merged, part0-merged, part1-merged}
 use Rattle.kinds.specs.Body.{body_of, FitsBody, LeavesZeros, low_weights, high_weights}
-use Rattle.kinds.specs.Graph.{HasShape, StandsFor, Extends, IsGoodStore}
+use Rattle.kinds.specs.Graph.{HasShape, IsGoodStore}
 use Rattle.kinds.specs.Kind.{JoinsTo}
 use Rattle.kinds.specs.Plain.{PlainEdge, PlainJoined, skip, made, over_shape, answered}
 use Rattle.kinds.specs.declared.fields.Fields.{Fields}
 use Rattle.kinds.proofs.BodyLaws.{node_tells}
 use Rattle.kinds.proofs.GraphLaws.{HasShape-extends, same_id_of_shape}
 use Rattle.builder.specs.View.{View, letter_at, StandsAt, Keeps, IsGood}
-use Rattle.builder.specs.Answers.{HasNodeShape, SomeUnknown, Makes, HasCause, Answers}
+use Rattle.builder.specs.Answers.{HasNodeShape, Makes, HasCause, Answers}
 use Rattle.builder.specs.Calls.{CanJoin, KeepsGood}
 use Rattle.builder.specs.declared.limit.Limit.{Limit}
 use Rattle.builder.specs.declared.limit.Limit.TheVariants as limit

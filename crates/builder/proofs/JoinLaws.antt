@@ -1,36 +1,20 @@
 -- What a join stands for, and what it adds to the store.
-use Rattle.std.proofs.Common.{◌≡◌, refl, sym, ◌∙◌, ap, subst, ℕ, zero, suc, ◌+◌, ◌<◌, ◌≤◌, List, [], ◌∷◌, ◌++◌, Bool, true, false, length, drop, arith, inl, inr}
-use Rattle.std.specs.Prelude.{Option, Some, None, Result, Ok, Err, ◌⊎◌, IfOk, IsTrue, if◌then◌else◌}
-use Rattle.std.specs.List.{Contains}
-use Rattle.std.proofs.lemmas.Option.{same_Some}
-use Rattle.std.proofs.lemmas.List.Elements.{Contains-append_left, Contains-append_right, Contains-append_cases}
+use Rattle.std.proofs.Common.{◌≡◌, refl, sym, ◌∙◌, ap, subst, ℕ, ◌+◌, ◌<◌, ◌≤◌, List, ◌∷◌, Bool, true, false, length, drop, arith}
+use Rattle.std.specs.Prelude.{Some, if◌then◌else◌}
 use Rattle.word_base.specs.declared.decomp.Decomp.{Decomp}
 use Rattle.word_base.specs.declared.kind_name.KindName.{KindName}
-use Rattle.record_store.specs.StoreView.{StoreView, find_in, HasBody}
-use Rattle.record_store.specs.Interns.{Interns, MadeBy}
-use Rattle.record_store.specs.declared.store.StoreFull.{StoreFull}
-use Rattle.tables.specs.Table.{Table, IsOver, merged}
-use Rattle.tables.specs.Tree.{Weights, Shape, leaf, node, Tree, skips, node_join, tjoin}
-use Rattle.tables.specs.Canonical.{canonical, IsNodeOf}
-use Rattle.tables.specs.Fits.{difference_in_range, fits}
+use Rattle.record_store.specs.StoreView.{find_in}
+use Rattle.tables.specs.Table.{Table, merged}
+use Rattle.tables.specs.Tree.{Weights, Shape, node, Tree, skips, node_join, tjoin}
+use Rattle.tables.specs.Canonical.{canonical}
 use Rattle.tables.specs.Laws.{are_allowed}
-use Rattle.tables.specs.Pieces.{Piece, pieces, InNodes, SomeUnfit, join_work}
-use Rattle.tables.proofs.CanonicalLaws.{allowed_below, canonical-merged}
-use Rattle.tables.proofs.PieceLaws.{HasLetter}
-use Rattle.kinds.proofs.RootLaws.{root_at, fits_difference}
-use Rattle.tables.proofs.TableLaws.{IsOver-merged, part0-merged, part1-merged}
-use Rattle.kinds.specs.Body.{body_of, low_weights, high_weights}
-use Rattle.kinds.specs.Graph.{Lookup, HasShape, StandsFor, Extends, IsGoodStore}
-use Rattle.kinds.specs.Kind.{AreShapes, IsNodeJoin, IsJoinOf, JoinsTo}
+use Rattle.kinds.specs.Body.{low_weights, high_weights}
+use Rattle.kinds.specs.Graph.{Lookup, HasShape, StandsFor, IsGoodStore}
+use Rattle.kinds.specs.Kind.{AreShapes, IsJoinOf, JoinsTo}
 use Rattle.kinds.specs.Plain.{PlainEdge, PlainJoined, skip, made, over_shape}
-use Rattle.kinds.specs.declared.fields.Fields.{Fields}
-use Rattle.kinds.proofs.BodyLaws.{node_tells}
-use Rattle.kinds.proofs.GraphLaws.{HasShape-extends, StandsFor-extends, same_shape_of_id, same_id_of_shape, leaf_of_zero, stands_join}
-use Rattle.builder.specs.View.{View, letter_at, StandsAt, IsEdge, Keeps, IsGood}
-use Rattle.builder.specs.Answers.{HasNodeShape, SomeUnknown, Makes, HasCause, Answers}
-use Rattle.builder.specs.declared.limit.Limit.{Limit}
-use Rattle.builder.specs.declared.limit.Limit.TheVariants as limit
-use Rattle.builder.proofs.LevelLaws.{allowed_from, has_letter, raise, lifted}
+use Rattle.kinds.proofs.GraphLaws.{HasShape-extends, same_shape_of_id, same_id_of_shape, leaf_of_zero, stands_join}
+use Rattle.builder.specs.View.{View, letter_at, StandsAt, Keeps}
+use Rattle.builder.proofs.LevelLaws.{has_letter}
 
 -- ---- the shapes under two ids
 pub shapes_of : (k : KindName) (find : Lookup) (letters : List Decomp) (i j : ℕ) (s r : Shape) → IsGoodStore k find letters → HasShape k find i s → HasShape k find j r → AreShapes i j s r

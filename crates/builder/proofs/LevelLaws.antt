@@ -1,10 +1,10 @@
 -- At which levels an edge stands, and what it stands for from one level to the next.
-use Rattle.std.proofs.Common.{◌≡◌, refl, sym, ◌∙◌, ap, subst, ℕ, zero, suc, ◌+◌, ◌-◌, ◌<◌, ◌≤◌, List, [], ◌∷◌, true, false, length, drop, arith, add-one, inl, inr}
+use Rattle.std.proofs.Common.{◌≡◌, refl, sym, ◌∙◌, ap, subst, ℕ, zero, suc, ◌+◌, ◌<◌, ◌≤◌, List, [], ◌∷◌, true, false, length, drop, arith, add-one, inl, inr}
 use Rattle.std.specs.Prelude.{Some, None, ◌⊎◌, ◌==◌}
 use Rattle.std.proofs.lemmas.Bool.{eq-eqb}
 use Rattle.word_base.specs.declared.decomp.Decomp.{Decomp}
 use Rattle.word_base.specs.declared.kind_name.KindName.{KindName}
-use Rattle.record_store.specs.StoreView.{find_in, IsKnown}
+use Rattle.record_store.specs.StoreView.{find_in}
 use Rattle.tables.specs.Table.{Table, halves}
 use Rattle.tables.specs.Tree.{Shape, leaf, node}
 use Rattle.tables.specs.Canonical.{canonical}
@@ -13,7 +13,7 @@ use Rattle.tables.proofs.CanonicalLaws.{rule_of, allowed_below}
 use Rattle.tables.proofs.KindLaws.{canonical_stands}
 use Rattle.tables.proofs.PieceLaws.{HasLetter}
 use Rattle.tables.proofs.TreeLaws.{is_at, above_levels, within_levels, apart}
-use Rattle.kinds.specs.Body.{body_of, FitsBody, LeavesZeros, IsBody}
+use Rattle.kinds.specs.Body.{body_of, FitsBody, LeavesZeros}
 use Rattle.kinds.specs.Graph.{HasShape, StandsFor}
 use Rattle.kinds.specs.Kind.{IsRooted}
 use Rattle.kinds.specs.Plain.{PlainEdge}

@@ -2,6 +2,7 @@ pub mod BothLaws
 pub mod CallLaws
 pub mod DifferenceLaws
 pub mod EachLaws
+mod Examples
 pub mod JoinCauses
 pub mod JoinLaws
 pub mod LevelLaws

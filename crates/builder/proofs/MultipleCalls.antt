@@ -1,5 +1,5 @@
 -- The multiples of two parts, one after the other, and their join.
-use Rattle.std.proofs.Common.{◌≡◌, sym, ◌∙◌, ap, subst, ℕ, ◌+◌, ◌-◌, ◌*◌, ◌<◌, ◌≤◌, ℤ, List, length, arith}
+use Rattle.std.proofs.Common.{◌≡◌, sym, ◌∙◌, ap, subst, ℕ, ◌+◌, ◌-◌, ◌*◌, ◌<◌, ℤ, List, length, arith}
 use Rattle.std.specs.Prelude.{Result, Ok, Err}
 use Rattle.std.specs.Result.{IsErrAnd}
 use Rattle.word_base.specs.declared.decomp.Decomp.{Decomp}
@@ -9,7 +9,7 @@ use Rattle.tables.specs.Pieces.{scale_work, join_work}
 use Rattle.kinds.specs.Plain.{PlainEdge, answered}
 use Rattle.builder.specs.Answers.{Answers}
 use Rattle.builder.specs.Calls.{CanJoin, IsJoin, IsOfEach, PartLiesBelow, StandForPart}
-use Rattle.builder.specs.View.{View, letter_at, StandsAt, top_of, Keeps}
+use Rattle.builder.specs.View.{View, letter_at, top_of, Keeps}
 use Rattle.builder.specs.declared.limit.Limit.{Limit}
 use Rattle.builder.proofs.BothLaws.{lies_below}
 use Rattle.builder.proofs.CallLaws.{Ran, ran_nothing, ran_then, answers_then, refuses_then}

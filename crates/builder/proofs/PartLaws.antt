@@ -1,5 +1,5 @@
 -- Constants, and the parts of an edge at a level.
-use Rattle.std.proofs.Common.{◌≡◌, refl, sym, ◌∙◌, ap, subst, ℕ, suc, ◌+◌, ◌<◌, ◌≤◌, ◌≢◌, ℤ, pos, ◌+ℤ◌, ◌-ℤ◌, ◌*ℤ◌, List, ◌∷◌, true, false, length, drop, arith}
+use Rattle.std.proofs.Common.{◌≡◌, refl, sym, ◌∙◌, ap, subst, ℕ, suc, ◌+◌, ◌<◌, ◌≤◌, ◌≢◌, ℤ, pos, ◌+ℤ◌, ◌-ℤ◌, ◌*ℤ◌, List, ◌∷◌, true, length, drop, arith}
 use Rattle.std.specs.Prelude.{Some, None, Result, Ok, Err}
 use Rattle.std.proofs.lemmas.Bool.{false_from_ne_true, and_parts, and_from}
 use Rattle.std.proofs.lemmas.Int.{ints}
@@ -13,7 +13,6 @@ use Rattle.word_base.specs.declared.weight.Overflow.{Overflow}
 use Rattle.record_store.specs.StoreView.{find_in}
 use Rattle.tables.specs.Table.{Table, halves, IsOver, part0, part1, constant_table}
 use Rattle.tables.specs.Tree.{Weights, Shape, leaf, Tree}
-use Rattle.tables.specs.Canonical.{canonical}
 use Rattle.tables.specs.Fits.{weights_in_range, difference_in_range, fits}
 use Rattle.tables.specs.Laws.{are_allowed}
 use Rattle.tables.specs.Parts.{low_edge, high_edge}

@@ -1,17 +1,15 @@
 -- The store of a builder after a body was interned: it stays good, and all that was known is known.
 use Rattle.std.proofs.Common.{◌≡◌, refl, sym, ◌∙◌, ap, subst, ℕ, ◌<◌, ◌≤◌, List, [], ◌∷◌, ◌++◌, append_assoc, arith, inl, inr}
-use Rattle.std.specs.Prelude.{Option, Some, None, Result, Ok, Err, ◌⊎◌, IfOk}
+use Rattle.std.specs.Prelude.{Option, Some, None, Result, Ok, ◌⊎◌, IfOk}
 use Rattle.std.proofs.lemmas.Option.{same_Some}
 use Rattle.std.proofs.lemmas.List.{append-nil}
-use Rattle.word_base.specs.declared.decomp.Decomp.{Decomp}
 use Rattle.word_base.specs.declared.kind_name.KindName.{KindName}
 use Rattle.record_store.specs.StoreView.{StoreView, find_in}
 use Rattle.record_store.specs.Interns.{Interns, MadeBy}
 use Rattle.record_store.specs.declared.store.StoreFull.{StoreFull}
 use Rattle.tables.specs.Table.{Table}
 use Rattle.tables.specs.Tree.{Weights}
-use Rattle.tables.specs.Laws.{are_allowed}
-use Rattle.kinds.specs.Graph.{StandsFor, Extends, IsGoodStore}
+use Rattle.kinds.specs.Graph.{StandsFor}
 use Rattle.kinds.proofs.GraphLaws.{StandsFor-extends}
 use Rattle.builder.specs.View.{View, Keeps, IsGood}
 

@@ -1,5 +1,5 @@
 -- The sums of two parts, one after the other, and their join.
-use Rattle.std.proofs.Common.{◌≡◌, refl, sym, ◌∙◌, ap, subst, ℕ, ◌+◌, ◌-◌, ◌*◌, ◌<◌, ◌≤◌, List, length, drop, min, arith}
+use Rattle.std.proofs.Common.{◌≡◌, sym, ◌∙◌, ap, subst, ℕ, ◌+◌, ◌-◌, ◌*◌, ◌<◌, List, length, min, arith}
 use Rattle.std.specs.Prelude.{Result, Ok, Err}
 use Rattle.std.specs.Result.{IsErrAnd}
 use Rattle.word_base.specs.declared.decomp.Decomp.{Decomp}
@@ -9,13 +9,12 @@ use Rattle.tables.specs.Pieces.{Piece, add_work, join_work}
 use Rattle.kinds.specs.Plain.{PlainEdge, answered}
 use Rattle.builder.specs.Answers.{Answers}
 use Rattle.builder.specs.Calls.{CanJoin, IsJoin, IsOfBoth, PlainParts, StandForParts, LiesBelow, LieBelow}
-use Rattle.builder.specs.View.{View, letter_at, StandsAt, IsEdge, top_of, Keeps}
+use Rattle.builder.specs.View.{View, letter_at, StandsAt, top_of, Keeps}
 use Rattle.builder.specs.declared.limit.Limit.{Limit}
 use Rattle.builder.proofs.BothLaws.{lies_below}
 use Rattle.builder.proofs.CallLaws.{Ran, ran_nothing, ran_then, answers_then, refuses_then}
 use Rattle.builder.proofs.JoinCauses.{refused}
 use Rattle.builder.proofs.LevelLaws.{stays, same_top, stands_somewhere}
-use Rattle.builder.proofs.StoreLaws.{keeps_on}
 use Rattle.builder.proofs.SumLaws.{SumCovers, sum_covers}
 
 pub refused_both : {T : Type 0} (k : KindName) (op : Table → Table → Table) (work : ℕ → Table → Table → List Piece) (v w : View) (a b : PlainEdge) (f : T → PlainEdge)

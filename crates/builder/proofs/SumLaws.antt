@@ -1,21 +1,15 @@
 -- Sums of tables and of their parts, and what the work of a sum covers.
-use Rattle.std.proofs.Common.{◌≡◌, refl, sym, ◌∙◌, ap, subst, ℕ, zero, suc, ◌+◌, ◌<◌, ◌≤◌, ℤ, ◌+ℤ◌, ◌-ℤ◌, List, [], ◌∷◌, ◌++◌, true, length, drop, arith, inl, inr}
-use Rattle.std.specs.Prelude.{Result, Ok, Err}
-use Rattle.std.specs.Result.{IsErrAnd}
+use Rattle.std.proofs.Common.{◌≡◌, refl, sym, ◌∙◌, ap, subst, ℕ, zero, suc, ◌+◌, ◌<◌, ◌+ℤ◌, List, [], ◌∷◌, true, length, drop, arith}
 use Rattle.std.proofs.lemmas.Int.{ints}
 use Rattle.word_base.specs.declared.decomp.Decomp.{Decomp}
 use Rattle.word_base.specs.declared.decomp.Decomp.TheVariants.{S, P, N}
 use Rattle.word_base.specs.declared.kind_name.KindName.{KindName}
 use Rattle.tables.specs.Table.{Table, entry, halves, IsOver, plus, minus, part0, part1, merged}
 use Rattle.tables.specs.Laws.{are_allowed}
-use Rattle.tables.specs.Pieces.{Piece, pieces, add_work, join_work}
-use Rattle.tables.proofs.PieceLaws.{Covers, HasLetter, covers_on, covers_both, covers_beside, covers_left, covers_right, covers_itself, covers_low, covers_high, covers_join, covers_twice}
+use Rattle.tables.specs.Pieces.{pieces, add_work, join_work}
+use Rattle.tables.proofs.PieceLaws.{Covers, covers_on, covers_beside, covers_left, covers_right, covers_low, covers_high, covers_join, covers_twice}
 use Rattle.tables.proofs.TableLaws.{both_halves, merged-parts, IsOver-zip_with, IsOver-part0, IsOver-part1}
-use Rattle.kinds.specs.Plain.{PlainEdge, answered}
-use Rattle.builder.specs.Answers.{Answers}
-use Rattle.builder.specs.Calls.{CanJoin, IsJoin, IsOfBoth, IsOfParts, PlainParts, StandForParts, LieBelow, ArePartsOfBoth}
-use Rattle.builder.specs.View.{View, letter_at, StandsAt, IsEdge, top_of, Keeps}
-use Rattle.builder.specs.declared.limit.Limit.{Limit}
+use Rattle.builder.specs.View.{View, letter_at}
 use Rattle.builder.proofs.CallLaws.{BothByHalves}
 use Rattle.builder.proofs.LevelLaws.{has_letter}
 

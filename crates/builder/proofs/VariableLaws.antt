@@ -1,6 +1,6 @@
 -- The variable of a level: the constants that its edge joins, and its table at the levels above.
-use Rattle.std.proofs.Common.{◌≡◌, refl, sym, ◌∙◌, ap, subst, ℕ, zero, suc, ◌+◌, ◌<◌, ◌≤◌, ℤ, pos, List, [], ◌∷◌, true, length, drop, arith}
-use Rattle.std.specs.Prelude.{Result, Ok, Err}
+use Rattle.std.proofs.Common.{◌≡◌, refl, sym, ◌∙◌, ap, subst, ℕ, zero, suc, ◌+◌, ◌<◌, ℤ, pos, List, [], ◌∷◌, true, length, drop, arith}
+use Rattle.std.specs.Prelude.{Result}
 use Rattle.word_base.specs.declared.decomp.Decomp.{Decomp}
 use Rattle.word_base.specs.declared.decomp.Decomp.TheVariants.{S, P, N}
 use Rattle.word_base.specs.declared.kind_name.KindName.{KindName}
@@ -9,7 +9,7 @@ use Rattle.tables.specs.Laws.{are_allowed}
 use Rattle.tables.specs.Pieces.{pieces, join_work}
 use Rattle.tables.proofs.PieceLaws.{covers_join, covers_twice}
 use Rattle.tables.proofs.CanonicalLaws.{IsOver-constant}
-use Rattle.kinds.specs.Plain.{PlainEdge, constant_edge}
+use Rattle.kinds.specs.Plain.{PlainEdge}
 use Rattle.builder.specs.Answers.{Answers}
 use Rattle.builder.specs.Calls.{CanJoin, IsJoin, IsVariable, variable_low, variable_high}
 use Rattle.builder.specs.View.{View, letter_at, StandsAt, Keeps}

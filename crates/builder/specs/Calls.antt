@@ -1,16 +1,17 @@
 -- What the calls of a builder ask, and what they answer.
-use Rattle.std.specs.Prelude.{◌≡◌, ℕ, ◌+◌, ◌<◌, ◌≤◌, ℤ, pos, negsuc, false, List, [], ◌∷◌, drop, length, Result, Ok, Err, MatchResult}
+use Rattle.std.specs.Prelude.{◌≡◌, ℕ, ◌+◌, ◌<◌, ◌≤◌, ℤ, pos, negsuc, false, List, [], ◌∷◌, drop, length, Result, Ok, Err, MatchResult, refl}
 use Rattle.word_base.specs.declared.decomp.Decomp.{Decomp}
 use Rattle.word_base.specs.declared.decomp.Decomp.TheVariants.{S, P, N}
 use Rattle.word_base.specs.declared.kind_name.KindName.{KindName}
+use Rattle.word_base.specs.declared.kind_name.KindName.TheVariants.{Evbdd, Hdd}
 use Rattle.word_base.specs.declared.weight.Overflow.{Overflow}
 use Rattle.tables.specs.Fits.{fits}
-use Rattle.tables.specs.Table.{Table, IsOver, part0, part1, merged, variable_table}
+use Rattle.tables.specs.Table.{Table, entry, IsOver, part0, part1, merged, variable_table}
 use Rattle.tables.specs.Pieces.{Piece, pieces, SomeUnfit, join_work}
 use Rattle.record_store.specs.StoreView.{StoreView}
 use Rattle.record_store.specs.Interns.{Interns}
 use Rattle.record_store.specs.declared.store.StoreFull.{StoreFull}
-use Rattle.kinds.specs.Plain.{PlainEdge, plain, constant_edge}
+use Rattle.kinds.specs.Plain.{PlainEdge, plain, plain_edge, constant_edge}
 use Rattle.builder.specs.declared.parts.Parts.{Parts}
 use Rattle.builder.specs.declared.limit.Limit.{Limit}
 use Rattle.builder.specs.declared.limit.Limit.TheVariants as limit
@@ -140,3 +141,20 @@ pub record StandForPart (k : KindName) (v : View) (level : ℕ) (t : Table) (low
 abbrev pub IsOfPart : (Table → Table) → (ℕ → Table → List Piece) → KindName → View → View → ℕ → PlainEdge → PlainEdge → Result PlainEdge Limit → Type 0
 IsOfPart op work k old new level low high result = (t : Table) → StandForPart k old level t low high →
     Answers k old new (work level t) level (op t) result
+
+-- ---- examples
+
+variable-shannon : merged S (entry (variable_low S)) (entry (variable_high S)) ≡ variable_table 1 0
+variable-shannon = refl
+
+variable-positive : merged P (entry (variable_low P)) (entry (variable_high P)) ≡ variable_table 1 0
+variable-positive = refl
+
+variable-negative : merged N (entry (variable_low N)) (entry (variable_high N)) ≡ variable_table 1 0
+variable-negative = refl
+
+skipped-shannon : skipped_high Evbdd S (plain_edge (pos 3) (pos 0) 7) ≡ plain_edge (pos 3) (pos 0) 7
+skipped-shannon = refl
+
+skipped-davio : skipped_high Hdd N (plain_edge (pos 0) (pos 0) 7) ≡ plain_edge (pos 0) (pos 0) 0
+skipped-davio = refl

@@ -1,15 +1,15 @@
 -- What a builder's value is, and what an edge stands for in it.
-use Rattle.std.specs.Prelude.{◌≡◌, ℕ, ◌-◌, ◌≤◌, List, None, true, ◌++◌, drop, length, slice_index, unwrap_or, slice_get, refl}
+use Rattle.std.specs.Prelude.{◌≡◌, ℕ, ◌-◌, ◌≤◌, List, [], ◌∷◌, None, true, ◌++◌, drop, length, slice_index, unwrap_or, slice_get, refl}
 use Rattle.std.specs.Coded.{Coded, code_by, coded×, coded_list}
 use Rattle.std.specs.Option.{option_map_or}
 use Rattle.word_base.specs.declared.decomp.Decomp.{Decomp}
-use Rattle.word_base.specs.declared.decomp.Decomp.TheVariants.{P}
+use Rattle.word_base.specs.declared.decomp.Decomp.TheVariants.{S, P, N}
 use Rattle.word_base.specs.declared.kind_name.KindName.{KindName}
 use Rattle.word_base.specs.contracts.decomp.Decomp.{the_row}
 use Rattle.record_store.specs.StoreView.{StoreView, find_in, view_code as store_code}
 use Rattle.tables.specs.Laws.{are_allowed}
 use Rattle.tables.specs.Table.{Table}
-use Rattle.kinds.specs.Graph.{Lookup, Extends, StandsFor, IsGoodStore}
+use Rattle.kinds.specs.Graph.{Extends, StandsFor, IsGoodStore}
 use Rattle.kinds.specs.Plain.{PlainEdge}
 
 -- the store, and the letters from the top level down
@@ -57,3 +57,6 @@ pub record Keeps (old new : View) : Type 0 where
 pub record IsGood (k : KindName) (v : View) : Type 0 where
   pub allowed : are_allowed k v.letters ≡ true
   pub store : IsGoodStore k (find_in v.store) v.letters
+
+second-letter : letter_at (S ∷ N ∷ []) 1 ≡ N
+second-letter = refl

@@ -1,10 +1,10 @@
-use Rattle.std.proofs.Common.{◌≡◌, sym, ◌∙◌, subst, ap, ℕ, ◌+◌, ◌-◌, ◌*◌, ◌<◌, ◌*ℤ◌, length, rules}
-use Rattle.std.specs.Prelude.{Ok, Err}
-use Rattle.tables.specs.Table.{Table, multiple}
+use Rattle.std.proofs.Common.{sym, ◌∙◌, subst, ap, ℕ, ◌+◌, ◌-◌, ◌*◌, ◌<◌, ◌*ℤ◌, length, rules}
+use Rattle.std.specs.Prelude.{Ok}
+use Rattle.tables.specs.Table.{multiple}
 use Rattle.tables.specs.Pieces.{scale_work}
-use Rattle.kinds.specs.Plain.{PlainEdge, plain, answered}
+use Rattle.kinds.specs.Plain.{plain, answered}
 use Rattle.builder.specs.Calls.{CanPart, ArePartsOf, IsOfEach, PartLiesBelow}
-use Rattle.builder.specs.View.{View, IsEdge, top_of, Keeps}
+use Rattle.builder.specs.View.{View, top_of}
 use Rattle.builder.specs.declared.limit.Limit.TheVariants as limit
 use Rattle.builder.proofs.BothLaws.{constant_is, constant_answers_each}
 use Rattle.builder.proofs.CallLaws.{same_keeps}

@@ -1,12 +1,10 @@
-use Rattle.std.proofs.Common.{◌≡◌, sym, ◌∙◌, subst, ap, ℕ, ◌+◌, ◌-◌, ◌*◌, ◌<◌, ◌+ℤ◌, length, min, rules}
-use Rattle.std.specs.Prelude.{Ok, Err}
-use Rattle.word_base.specs.declared.weight.Overflow.{Overflow}
-use Rattle.tables.specs.Table.{Table, plus, part0, part1}
+use Rattle.std.proofs.Common.{sym, ◌∙◌, subst, ap, ℕ, ◌+◌, ◌-◌, ◌*◌, ◌<◌, ◌+ℤ◌, length, min, rules}
+use Rattle.std.specs.Prelude.{Ok}
+use Rattle.tables.specs.Table.{plus}
 use Rattle.tables.specs.Pieces.{add_work}
-use Rattle.kinds.specs.Plain.{PlainEdge, plain, answered}
-use Rattle.builder.specs.Answers.{Answers}
+use Rattle.kinds.specs.Plain.{plain, answered}
 use Rattle.builder.specs.Calls.{CanPart, ArePartsOfBoth, IsOfBoth, LieBelow, plain_parts}
-use Rattle.builder.specs.View.{View, letter_at, StandsAt, IsEdge, top_of, Keeps}
+use Rattle.builder.specs.View.{View, top_of}
 use Rattle.builder.specs.declared.limit.Limit.TheVariants as limit
 use Rattle.builder.proofs.BothLaws.{constant_is, constants_answer, both_leaves, can_part_first, can_part_second, parts_lie_below}
 use Rattle.builder.proofs.CallLaws.{same_keeps, both_of_parts, both_unfit}

@@ -1,7 +1,6 @@
-use Rattle.std.proofs.Common.{◌≡◌, sym, subst, length, drop, ◌≤◌}
+use Rattle.std.proofs.Common.{sym, subst, length, drop}
 use Rattle.tables.specs.Table.{constant_table}
-use Rattle.kinds.specs.Plain.{PlainEdge, plain, constant_edge}
-use Rattle.builder.specs.View.{View, StandsAt, IsGood}
+use Rattle.builder.specs.View.{StandsAt, IsGood}
 use Rattle.builder.proofs.PartLaws.{constant_stands}
 use Rattle.builder.proofs.builder.Builder.constant.Goals as goal
 

@@ -1,5 +1,5 @@
 use Rattle.std.proofs.Common.{sym, ◌∙◌, ap}
-use Rattle.kinds.specs.Plain.{PlainEdge, plain, answered}
+use Rattle.kinds.specs.Plain.{plain}
 use Rattle.builder.specs.Calls.{skipped_high}
 use Rattle.builder.proofs.PartLaws.{skipped_parts_are, leaf_apart, letter_allowed, level_read, node_parts_are}
 use Rattle.builder.proofs.builder.Builder.parts.Goals as goal

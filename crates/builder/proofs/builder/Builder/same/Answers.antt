@@ -1,8 +1,7 @@
-use Rattle.std.proofs.Common.{◌≡◌, ℕ, ℤ, true, ap, sym, ◌∙◌, subst, refl}
+use Rattle.std.proofs.Common.{◌≡◌, ℤ, true, ap, sym, ◌∙◌, subst, refl}
 use Rattle.std.proofs.lemmas.Bool.{and_from, and_parts, eq-eqb, eqb-true}
 use Rattle.std.specs.Ordering.{int_eq}
 use Rattle.tables.proofs.TreeLaws.{int_eq-same, int_eq-refl}
-use Rattle.tables.specs.Tree.{weights}
 use Rattle.kinds.specs.Plain.{PlainEdge, plain, plain_edge}
 use Rattle.builder.specs.View.{IsGood}
 use Rattle.builder.proofs.SameLaws.{same_tells}

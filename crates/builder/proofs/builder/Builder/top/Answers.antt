@@ -1,4 +1,3 @@
-use Rattle.kinds.specs.Plain.{plain}
 use Rattle.builder.proofs.PartLaws.{level_read}
 use Rattle.builder.proofs.builder.Builder.top.Goals as goal
 

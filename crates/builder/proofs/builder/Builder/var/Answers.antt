@@ -1,5 +1,4 @@
-use Rattle.std.proofs.Common.{◌≡◌, ap, ◌∙◌, ◌+◌, ◌≤◌, ◌<◌, length, arith}
-use Rattle.word_base.specs.declared.decomp.Decomp.{Decomp}
+use Rattle.std.proofs.Common.{ap, ◌∙◌, ◌+◌, ◌≤◌, ◌<◌, length, arith}
 use Rattle.kinds.specs.Plain.{plain, answered}
 use Rattle.builder.specs.Calls.{variable_low, variable_high}
 use Rattle.builder.proofs.VariableLaws.{constants_can_join, variable_answers}
