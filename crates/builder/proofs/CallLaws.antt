@@ -9,13 +9,13 @@ use Rattle.tables.specs.Pieces.{Piece, pieces, InNodes}
 use Rattle.tables.proofs.PieceLaws.{Covers}
 use Rattle.kinds.specs.Plain.{PlainEdge}
 use Rattle.kinds.proofs.GraphLaws.{HasShape-extends}
-use Rattle.builder.specs.Answers.{Makes, HasCause, Answers}
+use Rattle.builder.specs.Answers.{Makes, HasCause, Causes, Answers}
 use Rattle.builder.specs.Calls.{IsOfEach, IsOfBoth, IsOfParts, PlainParts, ArePartsOfBoth}
 use Rattle.builder.specs.View.{View, StandsAt, IsEdge, top_of, Keeps}
 use Rattle.builder.specs.declared.limit.Limit.{Limit}
 use Rattle.builder.specs.declared.limit.Limit.TheVariants as limit
 use Rattle.word_base.specs.declared.weight.Overflow.{Overflow}
-use Rattle.builder.proofs.JoinCauses.{answers_overflow}
+use Rattle.builder.proofs.JoinCauses.{answers_overflow, no_cause}
 use Rattle.builder.proofs.LevelLaws.{from_level, descend, ascend, top_within}
 use Rattle.builder.proofs.StoreLaws.{keeps_itself, keeps_on}
 
@@ -72,6 +72,29 @@ refuses_then k v w x qs ps l m t u e ran keeps covers answers = record {
   made = made_on k v w x qs ps ran.keeps keeps ran.made answers.made covers;
   cause = cause_on k x v.letters qs ps _ _ (keeps.letters ∙ ran.keeps.letters) covers (λ d h. h) answers.cause;
   stands = tt;
+}
+
+-- ---- calls that answer no edge
+pub causes_of : (k : KindName) (v w : View) (ps : List Piece) (l : ℕ) (t : Table) (r : Result PlainEdge Limit) → Answers k v w ps l t r → Causes k v w ps r
+causes_of k v w ps l t r answers = record { made = answers.made; cause = answers.cause }
+
+-- nothing was refused
+pub ran_causes : {X : Type 0} (k : KindName) (v w : View) (ps : List Piece) (x : X) → Ran k v w ps → Causes k v w ps (Ok x)
+ran_causes k v w ps x ran = record { made = ran.made; cause = no_cause k w ps x }
+
+pub ran_on : {X : Type 0} (k : KindName) (v w x : View) (qs ps : List Piece) (r : Result X Limit) → Ran k v w qs → Keeps w x → Covers k v.letters qs ps →
+    Causes k w x ps r → Ran k v x qs
+ran_on k v w x qs ps r ran keeps covers causes = record {
+  keeps = keeps_on v w x ran.keeps keeps;
+  made = made_on k v w x qs ps ran.keeps keeps ran.made causes.made covers;
+}
+
+-- what refuses the whole has refused the last call
+pub causes_then : {X Y : Type 0} (k : KindName) (v w x : View) (qs ps : List Piece) (r : Result X Limit) (q : Result Y Limit) → Ran k v w qs → Keeps w x →
+    Covers k v.letters qs ps → ((e : Limit) → q ≡ Err e → r ≡ Err e) → Causes k w x ps r → Causes k v x qs q
+causes_then k v w x qs ps r q ran keeps covers same causes = record {
+  made = made_on k v w x qs ps ran.keeps keeps ran.made causes.made covers;
+  cause = cause_on k x v.letters qs ps r q (keeps.letters ∙ ran.keeps.letters) covers same causes.cause;
 }
 
 -- ---- from the level of the upper node to those above it

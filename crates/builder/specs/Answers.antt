@@ -30,6 +30,11 @@ pub record HasCause {X : Type 0} (k : KindName) (new : View) (ps : List Piece) (
   pub overflow : result ≡ Err limit.Overflow → SomeUnfit k new.letters ps
   pub full : result ≡ Err limit.Full → IsTrue new.store.spent × SomeUnknown k new ps
 
+-- a call makes no node but those of its pieces, and refuses by them alone
+pub record Causes {X : Type 0} (k : KindName) (old new : View) (ps : List Piece) (result : Result X Limit) : Type 0 where
+  pub made : Makes k old new ps
+  pub cause : HasCause k new ps result
+
 -- a call answers an edge that stands for the table from the level on, or refuses by its pieces, and makes no node but theirs
 pub record Answers (k : KindName) (old new : View) (ps : List Piece) (l : ℕ) (t : Table) (result : Result PlainEdge Limit) : Type 0 where
   pub made : Makes k old new ps
