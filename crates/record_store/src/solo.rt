@@ -1,4 +1,4 @@
-ghost use Rattle.std.specs.Prelude.{◌≡◌, ◌↔◌, ◌<◌, ◌≤◌, [], length, IfOk, IsErr, IsTrue, Some};
+ghost use Rattle.std.specs.Prelude.{◌≡◌, ◌↔◌, ℕ, ◌<◌, ◌≤◌, [], length, IfOk, IsErr, IsTrue, Some, None};
 ghost use Rattle.record_store.specs.Interns.{Interns};
 ghost use Rattle.record_store.specs.Solo.{solo_view, IsSoloView, Adds, HasRoomFor, IsFullFor};
 ghost use Rattle.record_store.specs.StoreView.{find_in, IsKnown, HasBody};
@@ -38,7 +38,8 @@ impl SoloStore {
     pub fn create(alloc: Global, cells: u32) -> Result<SoloStore, AllocError>
         requires some { 0 < cells }
         requires within { cells ≤ MAX_CELLS }
-        ensures { IfOk result (λ s. s ≡ record { bodies = []; cells = cells }) }
+        ensures empty { IfOk result (λ s. s ≡ record { bodies = []; cells = cells }) }
+        ensures nothing { IfOk result (λ s. (id : ℕ) → find_in (solo_view s) id ≡ None) }
     {
         let buckets = vec![in alloc; 0; (2 * cells).next_power_of_two() as usize]?;
         let bodies = Vec::with_capacity(alloc, cells as usize)?;

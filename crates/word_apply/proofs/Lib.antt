@@ -1,9 +1,8 @@
-pub mod CallLaws
-pub mod ExpressionCauses
+pub mod TableLaws
+pub mod CoverLaws
+pub mod GateCalls
+pub mod EdgeLists
+pub mod FoldCalls
+pub mod WordCalls
 pub mod ExpressionLaws
-pub mod FoldCauses
-pub mod FoldLaws
-pub mod GateCauses
-pub mod GateLaws
-pub mod WordCauses
-pub mod WordLaws
+pub mod ExpressionCalls

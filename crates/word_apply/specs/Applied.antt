@@ -1,48 +1,71 @@
--- What the calls on gates and words answer.
-use Rattle.std.specs.Prelude.{◌≡◌, ℕ, ◌≤◌, ◌^◌, ℤ, pos, ◌+ℤ◌, ◌-ℤ◌, ◌*ℤ◌, List, [], ◌∷◌, ◌++◌, length, drop, fold, slice_index_or, Result, refl}
+-- What the calls on gates, words and expressions ask and answer.
+use Rattle.std.specs.Prelude.{◌≡◌, ℕ, ◌≤◌, ◌^◌, ℤ, pos, negsuc, ◌+ℤ◌, ◌-ℤ◌, ◌*ℤ◌, List, [], ◌∷◌, ◌++◌, length, map, drop, slice_index_or, Result, refl}
 use Rattle.std.specs.List.{AllByRecursion}
-use Rattle.checks.specs.Work.{fold_table, gate_table, multiples, sums_from, word_table}
+use Rattle.builder.specs.Answers.{Answers}
+use Rattle.builder.specs.View.{View, StandsAt, IsEdge}
+use Rattle.builder.specs.declared.limit.Limit.{Limit}
+use Rattle.checks.specs.FormulaWork.{formula_work}
+use Rattle.checks.specs.Work.{or_work, xor_work, step_work, fold_work, gate_work, multiples, sums_from}
 use Rattle.circuits.specs.declared.gate_word.GateWord.{GateWord}
+use Rattle.kinds.specs.Plain.{PlainEdge, plain}
+use Rattle.kinds.specs.declared.kind.Edge.{Edge}
 use Rattle.spec_lang.specs.Formula.{Formula, number, word, negative, sum, difference, product}
 use Rattle.tables.specs.Pieces.{Piece, pieces, add_work, sub_work, mul_work}
 use Rattle.tables.specs.Table.{Table, entry, halves, plus, minus, times, opposite, constant_table}
 use Rattle.word_base.specs.declared.decomp.Decomp.{Decomp}
-use Rattle.kind_laws.specs.declared.edge.Edge.{Edge}
-use Rattle.diagram.specs.declared.builder.Limit.{Limit}
-use Rattle.diagram.specs.Causes.{Causes}
-use Rattle.diagram.specs.View.{View, StandsAt, IsEdge}
+use Rattle.word_base.specs.declared.kind_name.KindName.{KindName}
+
+abbrev pub plain_edges : {K X E : Type 0} → (X → ℤ) → List (Edge K X E) → List PlainEdge
+plain_edges of = map (plain of)
+
+abbrev pub AreEdges : KindName → View → List PlainEdge → Type 0
+AreEdges k v = AllByRecursion (IsEdge k v)
 
 -- the edges stand for the tables, one for one
-abbrev pub AllStand : View → ℕ → List Table → List Edge → Type 0
-AllStand v l [] [] = Unit {0}
-AllStand v l [] (e ∷ es) = ⊥
-AllStand v l (t ∷ ts) [] = ⊥
-AllStand v l (t ∷ ts) (e ∷ es) = StandsAt v l t e × AllStand v l ts es
+abbrev pub AllStand : KindName → View → ℕ → List Table → List PlainEdge → Type 0
+AllStand k v l [] [] = Unit {0}
+AllStand k v l [] (e ∷ es) = ⊥
+AllStand k v l (t ∷ ts) [] = ⊥
+AllStand k v l (t ∷ ts) (e ∷ es) = StandsAt k v l t e × AllStand k v l ts es
 
-abbrev pub AreEdges : View → List Edge → Type 0
-AreEdges v = AllByRecursion (IsEdge v)
+-- A call on edges, at each level from which these stand for tables: its work and its answer are by the level and the tables
+abbrev pub IsOfAll : (ℕ → List Table → Table) → (ℕ → List Table → List Piece) → KindName → View → View → List PlainEdge → Result PlainEdge Limit → Type 0
+IsOfAll op work k old new edges result = (l : ℕ) (ts : List Table) → l ≤ length old.letters → AllStand k old l ts edges →
+    Answers k old new (work l ts) l (op l ts) result
 
--- after the call an edge stands for the gate's table, whatever tables the edges of its inputs stand for
-pub record IsGateOf (word : GateWord) (old new : View) (inputs : List Edge) (e : Edge) : Type 0 where
-  pub table : (l : ℕ) (ts : List Table) → l ≤ length old.letters → AllStand old l ts inputs → StandsAt new l (gate_table word ts) e
-  pub good : IsEdge new e
+-- the same of a call that begins with an edge of its own
+abbrev pub IsOfRest : (Table → List Table → Table) → (ℕ → Table → List Table → List Piece) → KindName → View → View → PlainEdge → List PlainEdge →
+    Result PlainEdge Limit → Type 0
+IsOfRest op work k old new first rest result = (l : ℕ) (t : Table) (ts : List Table) → StandsAt k old l t first → AllStand k old l ts rest →
+    Answers k old new (work l t ts) l (op t ts) result
 
--- the same for the fold of its word, before the negation, which begins with the first edge
-pub record IsFoldOf (word : GateWord) (old new : View) (first : Edge) (rest : List Edge) (e : Edge) : Type 0 where
-  pub table : (l : ℕ) (t : Table) (ts : List Table) → l ≤ length old.letters → StandsAt old l t first → AllStand old l ts rest → StandsAt new l (fold_table word t ts) e
-  pub good : IsEdge new e
+-- ---- the work of gates, by all letters
+abbrev pub or_work_at : List Decomp → ℕ → Table → Table → List Piece
+or_work_at ds l = or_work (drop l ds) l
 
--- after the call an edge stands for the word's table, whatever tables the edges of its nets stand for
-pub record IsWordOf (old new : View) (bits : List Edge) (e : Edge) : Type 0 where
-  pub table : (l : ℕ) (ts : List Table) → l ≤ length old.letters → AllStand old l ts bits → StandsAt new l (word_table ts) e
-  pub good : IsEdge new e
+abbrev pub xor_work_at : List Decomp → ℕ → Table → Table → List Piece
+xor_work_at ds l = xor_work (drop l ds) l
 
--- the same for a sum with the multiples of more edges, of which the first counts 2^exponent times
-pub record IsSumOf (exponent : ℕ) (old new : View) (start : Edge) (bits : List Edge) (e : Edge) : Type 0 where
-  pub table : (l : ℕ) (t : Table) (ts : List Table) → l ≤ length old.letters → StandsAt old l t start → AllStand old l ts bits →
-      StandsAt new l (fold plus t (multiples (2 ^ exponent) ts)) e
-  pub good : IsEdge new e
+abbrev pub step_work_at : GateWord → List Decomp → ℕ → Table → Table → List Piece
+step_work_at gate ds l = step_work gate (drop l ds) l
 
+abbrev pub fold_work_at : GateWord → List Decomp → ℕ → Table → List Table → List Piece
+fold_work_at gate ds l = fold_work gate (drop l ds) l
+
+abbrev pub gate_work_at : GateWord → List Decomp → ℕ → List Table → List Piece
+gate_work_at gate ds l = gate_work gate (drop l ds) l
+
+-- ---- words
+-- the sum so far, the tables that are left, their multiples, and each sum with these
+abbrev pub sum_work : ℕ → ℕ → Table → List Table → List Piece
+sum_work power l t ts =
+    pieces l (t ∷ []) ++ pieces l ts ++ pieces l (multiples power ts) ++ pieces l (sums_from t (multiples power ts))
+
+-- one more multiple, of 3 by 4, onto 1
+sum_of_one : sum_work 4 0 (entry (pos 1)) (entry (pos 3) ∷ []) ≡ pieces 0 (entry (pos 1) ∷ entry (pos 3) ∷ entry (pos 12) ∷ entry (pos 13) ∷ [])
+sum_of_one = refl
+
+-- ---- expressions
 -- the table of a formula over so many levels, from those of the words by their numbers
 abbrev pub formula_table : ℕ → List Table → Formula → Table
 formula_table n ts (number z) = constant_table n z
@@ -51,6 +74,13 @@ formula_table n ts (negative a) = opposite (formula_table n ts a)
 formula_table n ts (sum a b) = plus (formula_table n ts a) (formula_table n ts b)
 formula_table n ts (difference a b) = minus (formula_table n ts a) (formula_table n ts b)
 formula_table n ts (product a b) = times (formula_table n ts a) (formula_table n ts b)
+
+-- over the levels from one on
+abbrev pub formula_at : Formula → List Decomp → ℕ → List Table → Table
+formula_at f ds l ts = formula_table (length (drop l ds)) ts f
+
+abbrev pub formula_work_at : Formula → List Decomp → ℕ → List Table → List Piece
+formula_work_at f ds l ts = formula_work (drop l ds) l (formula_table (length (drop l ds)) ts) f
 
 -- the operation of a formula of two operands; the first operand for the others
 abbrev pub operation_of : Formula → ℤ → ℤ → ℤ
@@ -61,31 +91,6 @@ operation_of (sum a b) x y = x +ℤ y
 operation_of (difference a b) x y = x -ℤ y
 operation_of (product a b) x y = x *ℤ y
 
--- after the call an edge stands for the formula's table, whatever tables the edges of the words stand for
-pub record IsFormulaOf (formula : Formula) (old new : View) (words : List Edge) (e : Edge) : Type 0 where
-  pub table : (l : ℕ) (ts : List Table) → l ≤ length old.letters → AllStand old l ts words →
-      StandsAt new l (formula_table (length (drop l old.letters)) ts formula) e
-  pub good : IsEdge new e
-
--- w0 - 2*w0, of a word that is the variable of one level
-difference_of_one : formula_table 1 (halves (entry (pos 0)) (entry (pos 3)) ∷ []) (difference (word 0) (product (number (pos 2)) (word 0)))
-    ≡ opposite (halves (entry (pos 0)) (entry (pos 3)))
-difference_of_one = refl
-
--- ---- causes
--- The causes of a call on edges, at each level from which they stand for tables: the work is by the level and the tables
-pub record CausesOfAll {X : Type 0} (work : ℕ → List Table → List Piece) (old new : View) (edges : List Edge) (result : Result X Limit) : Type 0 where
-  pub causes : (l : ℕ) (ts : List Table) → l ≤ length old.letters → AllStand old l ts edges → Causes old new (work l ts) result
-
--- the same of a call that begins with an edge of its own
-pub record CausesOfRest {X : Type 0} (work : ℕ → Table → List Table → List Piece) (old new : View) (first : Edge) (rest : List Edge) (result : Result X Limit) : Type 0 where
-  pub causes : (l : ℕ) (t : Table) (ts : List Table) → l ≤ length old.letters → StandsAt old l t first → AllStand old l ts rest → Causes old new (work l t ts) result
-
--- the sum so far, the tables that are left, their multiples, and each sum with these
-abbrev pub sum_work : ℕ → ℕ → Table → List Table → List Piece
-sum_work power l t ts =
-    pieces l (t ∷ []) ++ pieces l ts ++ pieces l (multiples power ts) ++ pieces l (sums_from t (multiples power ts))
-
 -- the work of the operation of a formula of two operands; nothing for the others
 abbrev pub operation_work : Formula → List Decomp → ℕ → Table → Table → List Piece
 operation_work (number z) ds l t u = []
@@ -93,8 +98,9 @@ operation_work (word w) ds l t u = []
 operation_work (negative a) ds l t u = []
 operation_work (sum a b) ds l t u = add_work l t u
 operation_work (difference a b) ds l t u = sub_work l t u
-operation_work (product a b) ds l t u = mul_work ds l t u
+operation_work (product a b) ds l t u = mul_work (drop l ds) l t u
 
--- one more multiple, of 3 by 4, onto 1
-sum_of_one : sum_work 4 0 (entry (pos 1)) (entry (pos 3) ∷ []) ≡ pieces 0 (entry (pos 1) ∷ entry (pos 3) ∷ entry (pos 12) ∷ entry (pos 13) ∷ [])
-sum_of_one = refl
+-- w0 - 2*w0, of a word that is the variable of one level
+difference_of_one : formula_table 1 (halves (entry (pos 0)) (entry (pos 3)) ∷ []) (difference (word 0) (product (number (pos 2)) (word 0)))
+    ≡ halves (entry (pos 0)) (entry (negsuc 2))
+difference_of_one = refl

@@ -1,45 +1,56 @@
-ghost use Rattle.std.specs.Prelude.{◌≡◌, ◌<◌, length, drop, IfOk};
-ghost use Rattle.checks.specs.Work.{step_work, fold_work, gate_work};
-ghost use Rattle.diagram.specs.Causes.{CausesOfBoth};
-ghost use Rattle.diagram.specs.Results.{IsOfBoth};
-ghost use Rattle.diagram.specs.View.{View, IsEdge, Keeps};
-ghost use Rattle.circuits.specs.Polynomial.{step, is_negated};
-ghost use Rattle.word_apply.specs.Applied.{AreEdges, CausesOfAll, CausesOfRest, IsFoldOf, IsGateOf};
+ghost use Rattle.std.specs.Prelude.{◌≡◌, ◌<◌, length};
+ghost use Rattle.checks.specs.Work.{step_table, fold_table, gate_table};
+ghost use Rattle.circuits.specs.Polynomial.{is_negated};
+ghost use Rattle.builder.specs.Calls.{IsOfBoth};
+ghost use Rattle.builder.specs.View.{View, IsEdge, Keeps};
+ghost use Rattle.kinds.specs.Plain.{plain, answered};
+ghost use Rattle.word_apply.specs.Applied.{plain_edges, AreEdges, IsOfAll, IsOfRest, step_work_at, fold_work_at, gate_work_at};
 
 use crate::gates::{and, not, or, xor};
+use builder::{Builder, Limit};
 use circuits::GateWord;
-use diagram::{Builder, Limit};
-use kind_laws::Edge;
+use kinds::{Edge, Kind};
+use record_store::Store;
 
 /// One step of a gate's fold, before the negation. NOT and BUFF take none.
-fn one_step(builder: &mut Builder, word: GateWord, a: &Edge, b: &Edge) -> Result<Edge, Limit>
-    requires a_good { IsEdge builder.old a.now }
-    requires b_good { IsEdge builder.old b.now }
+fn one_step<K: Kind, S: Store>(
+    builder: &mut Builder<K, S>,
+    word: GateWord,
+    a: Edge<K>,
+    b: Edge<K>,
+) -> Result<Edge<K>, Limit>
+    requires a_good { IsEdge K.NAME builder.old (plain K.extra_of a) }
+    requires b_good { IsEdge K.NAME builder.old (plain K.extra_of b) }
     ensures keeps { Keeps builder.old builder.new }
-    ensures step { IfOk result (λ e. IsOfBoth (step word) builder.old builder.new a.now b.now e) }
-    ensures causes { CausesOfBoth (λ l. step_work word (drop l builder.old.letters) l) builder.old builder.new a.now b.now result }
+    ensures step { IsOfBoth (step_table word) (step_work_at word builder.old.letters) K.NAME builder.old builder.new
+        (plain K.extra_of a) (plain K.extra_of b) (answered (plain K.extra_of) result) }
 {
     match word {
         GateWord::And | GateWord::Nand => and(builder, a, b),
         GateWord::Or | GateWord::Nor => or(builder, a, b),
         GateWord::Xor | GateWord::Xnor => xor(builder, a, b),
-        GateWord::Not | GateWord::Buff => Ok(*a),
+        GateWord::Not | GateWord::Buff => Ok(a),
     }
 }
 
 /// The fold from the left, beginning with the first edge.
-fn fold(builder: &mut Builder, word: GateWord, first: &Edge, rest: &[Edge]) -> Result<Edge, Limit>
-    requires first_good { IsEdge builder.old first.now }
-    requires rest_good { AreEdges builder.old rest.now }
+fn fold<K: Kind, S: Store>(
+    builder: &mut Builder<K, S>,
+    word: GateWord,
+    first: Edge<K>,
+    rest: &[Edge<K>],
+) -> Result<Edge<K>, Limit>
+    requires first_good { IsEdge K.NAME builder.old (plain K.extra_of first) }
+    requires rest_good { AreEdges K.NAME builder.old (plain_edges K.extra_of rest.now) }
     ensures keeps { Keeps builder.old builder.new }
-    ensures fold { IfOk result (λ e. IsFoldOf word builder.old builder.new first.now rest.now e) }
-    ensures causes { CausesOfRest (λ l. fold_work word (drop l builder.old.letters) l) builder.old builder.new first.now rest.now result }
+    ensures fold { IsOfRest (fold_table word) (fold_work_at word builder.old.letters) K.NAME builder.old builder.new
+        (plain K.extra_of first) (plain_edges K.extra_of rest.now) (answered (plain K.extra_of) result) }
 {
     match rest {
-        [] => Ok(*first),
+        [] => Ok(first),
         [next, more @ ..] => {
-            let folded = one_step(builder, word, first, next)?;
-            fold(builder, word, &folded, more)
+            let folded = one_step(builder, word, first, *next)?;
+            fold(builder, word, folded, more)
         }
     }
 }
@@ -54,19 +65,23 @@ fn is_negated(word: GateWord) -> bool
 }
 
 /// The edge of a gate, from those of its inputs, of which there is one at least.
-pub fn gate(builder: &mut Builder, word: GateWord, inputs: &[Edge]) -> Result<Edge, Limit>
-    requires good { AreEdges builder.old inputs.now }
+pub fn gate<K: Kind, S: Store>(
+    builder: &mut Builder<K, S>,
+    word: GateWord,
+    inputs: &[Edge<K>],
+) -> Result<Edge<K>, Limit>
+    requires good { AreEdges K.NAME builder.old (plain_edges K.extra_of inputs.now) }
     requires some { 0 < length inputs.now }
     ensures keeps { Keeps builder.old builder.new }
-    ensures gate { IfOk result (λ e. IsGateOf word builder.old builder.new inputs.now e) }
-    ensures causes { CausesOfAll (λ l. gate_work word (drop l builder.old.letters) l) builder.old builder.new inputs.now result }
+    ensures gate { IsOfAll (λ l. gate_table word) (gate_work_at word builder.old.letters) K.NAME builder.old builder.new
+        (plain_edges K.extra_of inputs.now) (answered (plain K.extra_of) result) }
 {
     match inputs {
         [] => unreachable!(),
         [first, rest @ ..] => {
-            let folded = fold(builder, word, first, rest)?;
+            let folded = fold(builder, word, *first, rest)?;
             if is_negated(word) {
-                return not(builder, &folded);
+                return not(builder, folded);
             }
             Ok(folded)
         }

@@ -1,61 +1,75 @@
-ghost use Rattle.std.specs.Prelude.{◌≡◌, ℤ, pos, ◌+ℤ◌, ◌-ℤ◌, ◌*ℤ◌, drop, IfOk};
-ghost use Rattle.checks.specs.Work.{not_work, or_work, xor_work};
-ghost use Rattle.diagram.specs.Causes.{CausesOfBoth, CausesOfEach};
-ghost use Rattle.diagram.specs.Results.{IsOfBoth, IsOfEach};
-ghost use Rattle.diagram.specs.View.{View, IsEdge, Keeps};
-ghost use Rattle.circuits.specs.Polynomial.{negation, step};
+ghost use Rattle.tables.specs.Table.{each};
+ghost use Rattle.checks.specs.Work.{not_work, step_table};
+ghost use Rattle.circuits.specs.Polynomial.{negation};
 ghost use Rattle.circuits.specs.declared.gate_word.GateWord.TheVariants.{And, Or, Xor};
-ghost use Rattle.tables.specs.Pieces.{mul_work};
+ghost use Rattle.builder.specs.Calls.{IsOfBoth, IsOfEach};
+ghost use Rattle.builder.specs.Products.{product_work};
+ghost use Rattle.builder.specs.View.{View, IsEdge, Keeps};
+ghost use Rattle.kinds.specs.Plain.{plain, answered};
+ghost use Rattle.word_apply.specs.Applied.{or_work_at, xor_work_at};
 
-use diagram::{Builder, Limit};
-use kind_laws::Edge;
+use builder::{Builder, Limit};
+use kinds::{Edge, Kind};
+use record_store::Store;
 use word_base::Weight;
 
 /// `1 - a`, entry by entry.
-pub fn not(builder: &mut Builder, a: &Edge) -> Result<Edge, Limit>
-    requires { IsEdge builder.old a.now }
+pub fn not<K: Kind, S: Store>(builder: &mut Builder<K, S>, a: Edge<K>) -> Result<Edge<K>, Limit>
+    requires { IsEdge K.NAME builder.old (plain K.extra_of a) }
     ensures keeps { Keeps builder.old builder.new }
-    ensures negation { IfOk result (λ e. IsOfEach negation builder.old builder.new a.now e) }
-    ensures causes { CausesOfEach not_work builder.old builder.new a.now result }
+    ensures negation { IsOfEach (each negation) not_work K.NAME builder.old builder.new (plain K.extra_of a)
+        (answered (plain K.extra_of) result) }
 {
     let one = builder.constant(Weight::ONE);
-    builder.sub(&one, a)
+    builder.sub(one, a)
 }
 
 /// `a*b`, entry by entry.
-pub fn and(builder: &mut Builder, a: &Edge, b: &Edge) -> Result<Edge, Limit>
-    requires a_good { IsEdge builder.old a.now }
-    requires b_good { IsEdge builder.old b.now }
+pub fn and<K: Kind, S: Store>(
+    builder: &mut Builder<K, S>,
+    a: Edge<K>,
+    b: Edge<K>,
+) -> Result<Edge<K>, Limit>
+    requires a_good { IsEdge K.NAME builder.old (plain K.extra_of a) }
+    requires b_good { IsEdge K.NAME builder.old (plain K.extra_of b) }
     ensures keeps { Keeps builder.old builder.new }
-    ensures conjunction { IfOk result (λ e. IsOfBoth (step And) builder.old builder.new a.now b.now e) }
-    ensures causes { CausesOfBoth (λ l. mul_work (drop l builder.old.letters) l) builder.old builder.new a.now b.now result }
+    ensures conjunction { IsOfBoth (step_table And) (product_work builder.old.letters) K.NAME builder.old builder.new
+        (plain K.extra_of a) (plain K.extra_of b) (answered (plain K.extra_of) result) }
 {
     builder.mul(a, b)
 }
 
 /// `a + b - a*b`, entry by entry.
-pub fn or(builder: &mut Builder, a: &Edge, b: &Edge) -> Result<Edge, Limit>
-    requires a_good { IsEdge builder.old a.now }
-    requires b_good { IsEdge builder.old b.now }
+pub fn or<K: Kind, S: Store>(
+    builder: &mut Builder<K, S>,
+    a: Edge<K>,
+    b: Edge<K>,
+) -> Result<Edge<K>, Limit>
+    requires a_good { IsEdge K.NAME builder.old (plain K.extra_of a) }
+    requires b_good { IsEdge K.NAME builder.old (plain K.extra_of b) }
     ensures keeps { Keeps builder.old builder.new }
-    ensures disjunction { IfOk result (λ e. IsOfBoth (step Or) builder.old builder.new a.now b.now e) }
-    ensures causes { CausesOfBoth (λ l. or_work (drop l builder.old.letters) l) builder.old builder.new a.now b.now result }
+    ensures disjunction { IsOfBoth (step_table Or) (or_work_at builder.old.letters) K.NAME builder.old builder.new
+        (plain K.extra_of a) (plain K.extra_of b) (answered (plain K.extra_of) result) }
 {
     let product = builder.mul(a, b)?;
     let sum = builder.add(a, b)?;
-    builder.sub(&sum, &product)
+    builder.sub(sum, product)
 }
 
 /// `a + b - 2*a*b`, entry by entry.
-pub fn xor(builder: &mut Builder, a: &Edge, b: &Edge) -> Result<Edge, Limit>
-    requires a_good { IsEdge builder.old a.now }
-    requires b_good { IsEdge builder.old b.now }
+pub fn xor<K: Kind, S: Store>(
+    builder: &mut Builder<K, S>,
+    a: Edge<K>,
+    b: Edge<K>,
+) -> Result<Edge<K>, Limit>
+    requires a_good { IsEdge K.NAME builder.old (plain K.extra_of a) }
+    requires b_good { IsEdge K.NAME builder.old (plain K.extra_of b) }
     ensures keeps { Keeps builder.old builder.new }
-    ensures exclusive_or { IfOk result (λ e. IsOfBoth (step Xor) builder.old builder.new a.now b.now e) }
-    ensures causes { CausesOfBoth (λ l. xor_work (drop l builder.old.letters) l) builder.old builder.new a.now b.now result }
+    ensures exclusive_or { IsOfBoth (step_table Xor) (xor_work_at builder.old.letters) K.NAME builder.old builder.new
+        (plain K.extra_of a) (plain K.extra_of b) (answered (plain K.extra_of) result) }
 {
     let product = builder.mul(a, b)?;
-    let twice = builder.scale(Weight::TWO, &product)?;
+    let twice = builder.scale(Weight::TWO, product)?;
     let sum = builder.add(a, b)?;
-    builder.sub(&sum, &twice)
+    builder.sub(sum, twice)
 }

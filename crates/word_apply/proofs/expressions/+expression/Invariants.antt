@@ -3,4 +3,4 @@ use Rattle.word_apply.proofs.ExpressionLaws.{operations}
 use Rattle.word_apply.proofs.expressions.+expression.Given as goal
 
 abbrev pub decreases-expression : goal.decreases-expression
-decreases-expression l = operations (formula_of l.expr.now)
+decreases-expression g l = operations (formula_of l.expr.now)

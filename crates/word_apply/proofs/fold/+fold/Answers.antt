@@ -1,49 +1,73 @@
-use Rattle.std.proofs.Common.{◌-◌, List, length, take, drop, subst, sym}
-use Rattle.kind_laws.specs.declared.edge.Edge.{Edge}
-use Rattle.diagram.proofs.SumLaws.{if_ok_map}
-use Rattle.word_apply.specs.Applied.{AreEdges, IsFoldOf}
-use Rattle.diagram.proofs.CauseLaws.{came_up}
-use Rattle.word_apply.proofs.FoldCauses.{step_refused, fold_followed}
-use Rattle.word_apply.proofs.FoldLaws.{still_edges, first_and_rest, shorter, fold_of_none, fold_of_more}
+use Rattle.std.proofs.Common.{◌-◌, List, [], length, take, drop, subst, sym}
+use Rattle.std.specs.Prelude.{Ok}
+use Rattle.builder.proofs.LevelLaws.{good_at}
+use Rattle.builder.proofs.StoreLaws.{keeps_itself, keeps_on}
+use Rattle.checks.specs.Work.{fold_table}
+use Rattle.kinds.specs.Plain.{plain, answered}
+use Rattle.word_apply.specs.Applied.{plain_edges, AreEdges, IsOfRest, fold_work_at}
+use Rattle.word_apply.proofs.EdgeLists.{first_and_rest, still_edges, shorter, is_empty}
+use Rattle.word_apply.proofs.FoldCalls.{fold_of_none, fold_refuses, fold_answers}
 use Rattle.word_apply.proofs.fold.+fold.Goals as goal
 
-pub fold-requires : goal.fold-requires
-fold-requires t c =
-    let rest = first_and_rest c.args.rest.now c.next-item.result c.in-len1-up.len_at_least c.next-item.is in
-    let more = take (length c.args.rest.now - 1) (drop 1 c.args.rest.now) in
-    let all = subst (λ (es : List Edge). AreEdges c.args.builder.now es) rest c.requires.rest_good in (
-      shorter c.args.rest.now more c.next-item.result t (sym c.decreases) rest,
-      (
-        c.in_ok-folded-in-len1-up.ensures.step.good,
-        still_edges c.args.builder.now c.one_step.new.builder more c.in_ok-folded-in-len1-up.ensures.keeps all.1,
-      ),
-    )
+pub returns-in_err-folded-in-len1-up-clause-fold : goal.returns-in_err-folded-in-len1-up-clause-fold
+returns-in_err-folded-in-len1-up-clause-fold g t c =
+    let k = g.K.Kind.NAME in
+    let of = g.K.Kind.extra_of in
+    let v = c.args.builder.now in
+    let w = c.one_step.new.builder in
+    let rest = c.args.rest.now in
+    let first = plain of c.args.first in
+    let all = first_and_rest rest c.next-item.result c.in-len1-up.len_at_least c.next-item.is in
+    subst (λ (es : List _). IsOfRest (fold_table c.args.word) (fold_work_at c.args.word v.letters) k v w first (plain_edges of es) (answered (plain of) c.from_residual.result))
+    (sym all)
+    (fold_refuses c.args.word k v w first (plain of c.next-item.result) (plain_edges of (take (length rest - 1) (drop 1 rest))) (plain of) c.from_residual.result
+    c.in_err-folded-in-len1-up.field-0.0 c.from_residual.ensures.1 c.in_err-folded-in-len1-up.ensures.keeps c.in_err-folded-in-len1-up.ensures.step)
+
+pub fold-requires-clause-first_good : goal.fold-requires-clause-first_good
+fold-requires-clause-first_good g t c κs within =
+    let k = g.K.Kind.NAME in
+    let of = g.K.Kind.extra_of in
+    let rest = c.args.rest.now in
+    let all = first_and_rest rest c.next-item.result c.in-len1-up.len_at_least c.next-item.is in
+    let first = c.requires.first_good in
+    let next = (subst (λ (es : List _). AreEdges k c.args.builder.now (plain_edges of es)) all c.requires.rest_good).0 in
+    good_at k c.one_step.new.builder (plain of c.in_ok-folded-in-len1-up.folded) 0 _ (c.in_ok-folded-in-len1-up.ensures.step 0 first.0 next.0 first.1 next.1).stands
+
+pub fold-requires-clause-rest_good : goal.fold-requires-clause-rest_good
+fold-requires-clause-rest_good g t c κs within =
+    let k = g.K.Kind.NAME in
+    let of = g.K.Kind.extra_of in
+    let v = c.args.builder.now in
+    let rest = c.args.rest.now in
+    let all = first_and_rest rest c.next-item.result c.in-len1-up.len_at_least c.next-item.is in
+    let more = (subst (λ (es : List _). AreEdges k v (plain_edges of es)) all c.requires.rest_good).1 in
+    still_edges k v c.one_step.new.builder (plain_edges of (take (length rest - 1) (drop 1 rest))) c.in_ok-folded-in-len1-up.ensures.keeps more
 
 pub returns-in-empty-clause-fold : goal.returns-in-empty-clause-fold
-returns-in-empty-clause-fold t c = fold_of_none c.args.word c.args.builder.now c.args.first.now c.args.rest.now c.requires.first_good c.in-empty.len_below
+returns-in-empty-clause-fold g t c =
+    let k = g.K.Kind.NAME in
+    let of = g.K.Kind.extra_of in
+    let v = c.args.builder.now in
+    let first = plain of c.args.first in
+    subst (λ (es : List _). IsOfRest (fold_table c.args.word) (fold_work_at c.args.word v.letters) k v v first (plain_edges of es) (Ok first))
+    (sym (is_empty c.args.rest.now c.in-empty.len_below)) (fold_of_none c.args.word k v first)
+
+pub returns-in_ok-folded-in-len1-up-clause-keeps : goal.returns-in_ok-folded-in-len1-up-clause-keeps
+returns-in_ok-folded-in-len1-up-clause-keeps g t c =
+    keeps_on c.args.builder.now c.one_step.new.builder c.fold.new.builder c.in_ok-folded-in-len1-up.ensures.keeps c.fold.ensures.keeps
 
 pub returns-in_ok-folded-in-len1-up-clause-fold : goal.returns-in_ok-folded-in-len1-up-clause-fold
-returns-in_ok-folded-in-len1-up-clause-fold t c =
-    let rest = first_and_rest c.args.rest.now c.next-item.result c.in-len1-up.len_at_least c.next-item.is in
-    let more = take (length c.args.rest.now - 1) (drop 1 c.args.rest.now) in
-    if_ok_map c.fold.result (IsFoldOf c.args.word c.one_step.new.builder c.fold.new.builder c.in_ok-folded-in-len1-up.folded more) _
-    (λ e h.
-    subst (λ (es : List Edge). IsFoldOf c.args.word c.args.builder.now c.fold.new.builder c.args.first.now es e) (sym rest)
-    (fold_of_more c.args.word c.args.builder.now c.one_step.new.builder c.fold.new.builder c.args.first.now c.next-item.result c.in_ok-folded-in-len1-up.folded e more
-    c.in_ok-folded-in-len1-up.ensures.keeps c.in_ok-folded-in-len1-up.ensures.step h))
-    c.fold.ensures.fold
-
-pub returns-in_err-folded-in-len1-up-clause-causes : goal.returns-in_err-folded-in-len1-up-clause-causes
-returns-in_err-folded-in-len1-up-clause-causes t c =
-    let rest = first_and_rest c.args.rest.now c.next-item.result c.in-len1-up.len_at_least c.next-item.is in
-    let more = take (length c.args.rest.now - 1) (drop 1 c.args.rest.now) in
-    step_refused c.args.word c.args.builder.now c.one_step.new.builder c.args.first.now c.next-item.result more c.args.rest.now c.one_step.result c.from_residual.result rest
-    c.one_step.ensures.keeps c.one_step.ensures.causes
-    (came_up c.from_residual.result c.one_step.result c.in_err-folded-in-len1-up.field-0.0 c.in_err-folded-in-len1-up.was c.from_residual.ensures.1)
-
-pub returns-in_ok-folded-in-len1-up-clause-causes : goal.returns-in_ok-folded-in-len1-up-clause-causes
-returns-in_ok-folded-in-len1-up-clause-causes t c =
-    let rest = first_and_rest c.args.rest.now c.next-item.result c.in-len1-up.len_at_least c.next-item.is in
-    let more = take (length c.args.rest.now - 1) (drop 1 c.args.rest.now) in
-    fold_followed c.args.word c.args.builder.now c.one_step.new.builder c.fold.new.builder c.args.first.now c.next-item.result c.in_ok-folded-in-len1-up.folded more c.args.rest.now
-    c.one_step.result c.fold.result rest c.one_step.ensures.keeps c.fold.ensures.keeps c.one_step.ensures.causes c.in_ok-folded-in-len1-up.ensures.step c.fold.ensures.causes
+returns-in_ok-folded-in-len1-up-clause-fold g t c =
+    let k = g.K.Kind.NAME in
+    let of = g.K.Kind.extra_of in
+    let v = c.args.builder.now in
+    let w = c.one_step.new.builder in
+    let x = c.fold.new.builder in
+    let rest = c.args.rest.now in
+    let first = plain of c.args.first in
+    let all = first_and_rest rest c.next-item.result c.in-len1-up.len_at_least c.next-item.is in
+    let result = answered (plain of) c.fold.result in
+    subst (λ (es : List _). IsOfRest (fold_table c.args.word) (fold_work_at c.args.word v.letters) k v x first (plain_edges of es) result) (sym all)
+    (fold_answers c.args.word k v w x first (plain of c.next-item.result) (plain of c.in_ok-folded-in-len1-up.folded)
+    (plain_edges of (take (length rest - 1) (drop 1 rest))) result c.in_ok-folded-in-len1-up.ensures.keeps c.fold.ensures.keeps
+    c.in_ok-folded-in-len1-up.ensures.step c.fold.ensures.fold)

@@ -2,4 +2,4 @@ use Rattle.std.proofs.Common.{length}
 use Rattle.word_apply.proofs.fold.+fold.Given as goal
 
 abbrev pub decreases-fold : goal.decreases-fold
-decreases-fold l = length l.rest.now
+decreases-fold g l = length l.rest.now

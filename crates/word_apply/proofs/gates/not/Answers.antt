@@ -1,15 +1,12 @@
-use Rattle.std.proofs.Common.{◌-ℤ◌}
-use Rattle.diagram.specs.Results.{IsOfBoth}
-use Rattle.diagram.proofs.SumLaws.{if_ok_map}
-use Rattle.word_apply.proofs.GateCauses.{not_causes}
-use Rattle.word_apply.proofs.GateLaws.{negation_of}
+use Rattle.std.proofs.Common.{arith, ℕ, ◌≤◌}
+use Rattle.kinds.specs.Plain.{plain, answered}
+use Rattle.word_apply.proofs.GateCalls.{negation_answers}
 use Rattle.word_apply.proofs.gates.not.Goals as goal
 
-pub returns-clause-negation : goal.returns-clause-negation
-returns-clause-negation c =
-    if_ok_map c.sub.result (IsOfBoth (λ x y. x -ℤ y) c.args.builder.now c.sub.new.self c.constant-one.result c.args.a.now) _
-    (λ e h. negation_of c.args.builder.now c.sub.new.self c.constant-one.result c.args.a.now e c.constant-one.ensures.edge h) c.sub.ensures.difference
+pub sub-requires-clause-a_good : goal.sub-requires-clause-a_good
+sub-requires-clause-a_good g c κs within = (_, c.constant-one.ensures.table 0 (omega arith))
 
-pub returns-clause-causes : goal.returns-clause-causes
-returns-clause-causes c =
-    not_causes c.args.builder.now c.sub.new.self c.constant-one.result c.args.a.now c.sub.result c.constant-one.ensures.edge c.sub.ensures.keeps c.sub.ensures.causes
+pub returns-clause-negation : goal.returns-clause-negation
+returns-clause-negation g c =
+    negation_answers g.K.Kind.NAME c.args.builder.now c.sub.new.self (plain g.K.Kind.extra_of c.constant-one.result) (plain g.K.Kind.extra_of c.args.a)
+    (answered (plain g.K.Kind.extra_of) c.sub.result) c.constant-one.ensures.edge c.sub.ensures.keeps c.sub.ensures.difference

@@ -1,72 +1,59 @@
-use Rattle.std.proofs.Common.{refl, ◌+ℤ◌, ◌-ℤ◌, ◌*ℤ◌}
-use Rattle.diagram.specs.Results.{IsOfBoth}
-use Rattle.diagram.proofs.JoinLaws.{still_edge, keeps_itself, keeps_on}
-use Rattle.diagram.proofs.ProductLaws.{moved}
-use Rattle.diagram.proofs.SumLaws.{if_ok_map}
-use Rattle.diagram.proofs.CauseLaws.{came_up}
-use Rattle.word_apply.proofs.CallLaws.{two_causes}
-use Rattle.word_apply.proofs.GateCauses.{with_product, or_made, multiplied, or_added, or_subtracted}
-use Rattle.word_apply.proofs.GateLaws.{combined}
+use Rattle.checks.specs.Work.{step_table}
+use Rattle.circuits.specs.declared.gate_word.GateWord.TheVariants.{Or}
+use Rattle.builder.proofs.LevelLaws.{still_edge, good_at}
+use Rattle.builder.proofs.StoreLaws.{keeps_on}
+use Rattle.kinds.specs.Plain.{plain, answered}
+use Rattle.word_apply.proofs.CoverLaws.{or_made}
+use Rattle.word_apply.proofs.GateCalls.{product_refuses, or_sum_refuses, or_answers}
 use Rattle.word_apply.proofs.gates.or.Goals as goal
 
+pub returns-in_err-product-clause-disjunction : goal.returns-in_err-product-clause-disjunction
+returns-in_err-product-clause-disjunction g c =
+    product_refuses or_made (step_table Or) g.K.Kind.NAME c.args.builder.now c.mul.new.self (plain g.K.Kind.extra_of c.args.a) (plain g.K.Kind.extra_of c.args.b)
+    (plain g.K.Kind.extra_of) c.from_residual.result c.in_err-product.field-0.0 c.from_residual.ensures.1 c.in_err-product.ensures.keeps c.in_err-product.ensures.product
+
 pub add-requires-clause-a_good : goal.add-requires-clause-a_good
-add-requires-clause-a_good c = still_edge c.args.builder.now c.mul.new.self c.args.a.now c.in_ok-product.ensures.keeps c.requires.a_good
+add-requires-clause-a_good g c κs within =
+    still_edge g.K.Kind.NAME c.args.builder.now c.mul.new.self (plain g.K.Kind.extra_of c.args.a) c.in_ok-product.ensures.keeps c.requires.a_good
 
 pub add-requires-clause-b_good : goal.add-requires-clause-b_good
-add-requires-clause-b_good c = still_edge c.args.builder.now c.mul.new.self c.args.b.now c.in_ok-product.ensures.keeps c.requires.b_good
+add-requires-clause-b_good g c κs within =
+    still_edge g.K.Kind.NAME c.args.builder.now c.mul.new.self (plain g.K.Kind.extra_of c.args.b) c.in_ok-product.ensures.keeps c.requires.b_good
+
+pub returns-in_err-sum-clause-keeps : goal.returns-in_err-sum-clause-keeps
+returns-in_err-sum-clause-keeps g c =
+    keeps_on c.args.builder.now c.mul.new.self c.add.new.self c.in_ok-product.ensures.keeps c.in_err-sum.ensures.keeps
+
+pub returns-in_err-sum-clause-disjunction : goal.returns-in_err-sum-clause-disjunction
+returns-in_err-sum-clause-disjunction g c =
+    or_sum_refuses g.K.Kind.NAME c.args.builder.now c.mul.new.self c.add.new.self (plain g.K.Kind.extra_of c.args.a) (plain g.K.Kind.extra_of c.args.b)
+    (plain g.K.Kind.extra_of c.in_ok-product.product) (plain g.K.Kind.extra_of) c.from_residual-in_err-sum.result c.in_err-sum.field-0.0
+    c.from_residual-in_err-sum.ensures.1 c.in_ok-product.ensures.keeps c.in_ok-product.ensures.product c.in_err-sum.ensures.keeps c.in_err-sum.ensures.sum
+
+pub sub-requires-clause-a_good : goal.sub-requires-clause-a_good
+sub-requires-clause-a_good g c κs within =
+    let k = g.K.Kind.NAME in
+    let w = c.mul.new.self in
+    let a = still_edge k c.args.builder.now w (plain g.K.Kind.extra_of c.args.a) c.in_ok-product.ensures.keeps c.requires.a_good in
+    let b = still_edge k c.args.builder.now w (plain g.K.Kind.extra_of c.args.b) c.in_ok-product.ensures.keeps c.requires.b_good in
+    good_at k c.add.new.self (plain g.K.Kind.extra_of c.in_ok-sum.sum) 0 _ (c.in_ok-sum.ensures.sum 0 a.0 b.0 a.1 b.1).stands
 
 pub sub-requires-clause-b_good : goal.sub-requires-clause-b_good
-sub-requires-clause-b_good c =
-    still_edge c.mul.new.self c.add.new.self c.in_ok-product.product c.in_ok-sum.ensures.keeps c.in_ok-product.ensures.product.good
+sub-requires-clause-b_good g c κs within =
+    let k = g.K.Kind.NAME in
+    let a = c.requires.a_good in
+    let b = c.requires.b_good in
+    let product = plain g.K.Kind.extra_of c.in_ok-product.product in
+    still_edge k c.mul.new.self c.add.new.self product c.in_ok-sum.ensures.keeps
+    (good_at k c.mul.new.self product 0 _ (c.in_ok-product.ensures.product 0 a.0 b.0 a.1 b.1).stands)
+
+pub returns-clause-keeps : goal.returns-clause-keeps
+returns-clause-keeps g c =
+    keeps_on c.args.builder.now c.add.new.self c.sub.new.self
+    (keeps_on c.args.builder.now c.mul.new.self c.add.new.self c.in_ok-product.ensures.keeps c.in_ok-sum.ensures.keeps) c.sub.ensures.keeps
 
 pub returns-clause-disjunction : goal.returns-clause-disjunction
-returns-clause-disjunction c =
-    let v = c.args.builder.now in
-    let v1 = c.mul.new.self in
-    let v2 = c.add.new.self in
-    let a = c.args.a.now in
-    let b = c.args.b.now in
-    let first = c.in_ok-product.ensures.keeps in
-    let second = c.in_ok-sum.ensures.keeps in
-    let sum = moved (λ x y. x +ℤ y) v v1 v2 v2 a b c.in_ok-sum.sum first c.in_ok-sum.ensures.sum (keeps_itself v2) in
-    let product = moved (λ x y. x *ℤ y) v v v1 v2 a b c.in_ok-product.product (keeps_itself v) c.in_ok-product.ensures.product second in
-    if_ok_map c.sub.result (IsOfBoth (λ x y. x -ℤ y) v2 c.sub.new.self c.in_ok-sum.sum c.in_ok-product.product) _
-    (λ e h.
-    combined (λ x y. x -ℤ y) (λ x y. x +ℤ y) (λ x y. x *ℤ y) v v2 c.sub.new.self a b c.in_ok-sum.sum c.in_ok-product.product e
-    (keeps_on v v1 v2 first second) sum product h)
-    c.sub.ensures.difference
-
-pub returns-in_err-product-clause-causes : goal.returns-in_err-product-clause-causes
-returns-in_err-product-clause-causes c =
-    let v = c.args.builder.now in
-    let v1 = c.mul.new.self in
-    let a = c.args.a.now in
-    let b = c.args.b.now in
-    let first = multiplied or_made v v1 a b c.mul.result c.mul.ensures.keeps c.mul.ensures.causes in
-    two_causes (with_product or_made v) v v1 a b c.mul.result c.from_residual.result first
-    (came_up c.from_residual.result c.mul.result c.in_err-product.field-0.0 c.in_err-product.was c.from_residual.ensures.1)
-
-pub returns-in_err-sum-clause-causes : goal.returns-in_err-sum-clause-causes
-returns-in_err-sum-clause-causes c =
-    let v = c.args.builder.now in
-    let v1 = c.mul.new.self in
-    let a = c.args.a.now in
-    let b = c.args.b.now in
-    let first = multiplied or_made v v1 a b c.mul.result c.mul.ensures.keeps c.mul.ensures.causes in
-    let second = or_added v v1 c.add.new.self a b c.mul.result c.add.result first c.add.ensures.keeps c.add.ensures.causes in
-    two_causes (with_product or_made v) v c.add.new.self a b c.add.result c.from_residual-in_err-sum.result second
-    (came_up c.from_residual-in_err-sum.result c.add.result c.in_err-sum.field-0.0 c.in_err-sum.was c.from_residual-in_err-sum.ensures.1)
-
-pub returns-clause-causes : goal.returns-clause-causes
-returns-clause-causes c =
-    let v = c.args.builder.now in
-    let v1 = c.mul.new.self in
-    let a = c.args.a.now in
-    let b = c.args.b.now in
-    let first = multiplied or_made v v1 a b c.mul.result c.mul.ensures.keeps c.mul.ensures.causes in
-    let v2 = c.add.new.self in
-    let second = or_added v v1 v2 a b c.mul.result c.add.result first c.add.ensures.keeps c.add.ensures.causes in
-    let sum = moved (λ x y. x +ℤ y) v v1 v2 v2 a b c.in_ok-sum.sum c.in_ok-product.ensures.keeps c.in_ok-sum.ensures.sum (keeps_itself v2) in
-    let product = moved (λ x y. x *ℤ y) v v v1 v2 a b c.in_ok-product.product (keeps_itself v) c.in_ok-product.ensures.product c.in_ok-sum.ensures.keeps in
-    let third = or_subtracted v v2 c.sub.new.self a b c.in_ok-sum.sum c.in_ok-product.product c.add.result c.sub.result sum product second c.sub.ensures.keeps c.sub.ensures.causes in
-    two_causes (with_product or_made v) v c.sub.new.self a b c.sub.result c.sub.result third refl
+returns-clause-disjunction g c =
+    or_answers g.K.Kind.NAME c.args.builder.now c.mul.new.self c.add.new.self c.sub.new.self (plain g.K.Kind.extra_of c.args.a) (plain g.K.Kind.extra_of c.args.b)
+    (plain g.K.Kind.extra_of c.in_ok-product.product) (plain g.K.Kind.extra_of c.in_ok-sum.sum) (answered (plain g.K.Kind.extra_of) c.sub.result)
+    c.in_ok-product.ensures.keeps c.in_ok-product.ensures.product c.in_ok-sum.ensures.keeps c.in_ok-sum.ensures.sum c.sub.ensures.keeps c.sub.ensures.difference

@@ -1,103 +1,84 @@
-use Rattle.std.proofs.Common.{refl, ℕ, ◌≤◌, length, pos, ◌+ℤ◌, ◌-ℤ◌, ◌*ℤ◌}
-use Rattle.tables.specs.Table.{Table, times, multiple}
-use Rattle.diagram.specs.Results.{IsOfBoth}
-use Rattle.diagram.specs.View.{StandsAt}
-use Rattle.diagram.proofs.JoinLaws.{stays, still_edge, keeps_itself, keeps_on}
-use Rattle.diagram.proofs.ProductLaws.{moved}
-use Rattle.diagram.proofs.SumLaws.{if_ok_map}
-use Rattle.diagram.proofs.CauseLaws.{came_up}
-use Rattle.word_apply.proofs.CallLaws.{two_causes}
-use Rattle.word_apply.proofs.GateCauses.{with_product, xor_made, multiplied, xor_doubled, xor_added, xor_subtracted}
-use Rattle.word_apply.proofs.GateLaws.{each_after, combined}
+use Rattle.std.proofs.Common.{refl, ◌∙◌}
+use Rattle.checks.specs.Work.{step_table}
+use Rattle.circuits.specs.declared.gate_word.GateWord.TheVariants.{Xor}
+use Rattle.builder.proofs.LevelLaws.{still_edge, good_at}
+use Rattle.builder.proofs.StoreLaws.{keeps_on}
+use Rattle.kinds.specs.Plain.{plain, answered}
+use Rattle.word_apply.proofs.CoverLaws.{xor_made}
+use Rattle.word_apply.proofs.GateCalls.{product_refuses, xor_twice_refuses, xor_sum_refuses, xor_answers}
 use Rattle.word_apply.proofs.gates.xor.Goals as goal
 
+pub returns-in_err-product-clause-exclusive_or : goal.returns-in_err-product-clause-exclusive_or
+returns-in_err-product-clause-exclusive_or g c =
+    product_refuses xor_made (step_table Xor) g.K.Kind.NAME c.args.builder.now c.mul.new.self (plain g.K.Kind.extra_of c.args.a) (plain g.K.Kind.extra_of c.args.b)
+    (plain g.K.Kind.extra_of) c.from_residual.result c.in_err-product.field-0.0 c.from_residual.ensures.1 c.in_err-product.ensures.keeps c.in_err-product.ensures.product
+
+pub scale-requires-after_bounds : goal.scale-requires-after_bounds
+scale-requires-after_bounds g c = λ lives bounds.
+    let a = c.requires.a_good in
+    let b = c.requires.b_good in
+    good_at g.K.Kind.NAME c.mul.new.self (plain g.K.Kind.extra_of c.in_ok-product.product) 0 _ (c.in_ok-product.ensures.product 0 a.0 b.0 a.1 b.1).stands
+
+pub returns-in_err-twice-clause-keeps : goal.returns-in_err-twice-clause-keeps
+returns-in_err-twice-clause-keeps g c =
+    keeps_on c.args.builder.now c.mul.new.self c.scale.new.self c.in_ok-product.ensures.keeps c.in_err-twice.ensures.keeps
+
+pub returns-in_err-twice-clause-exclusive_or : goal.returns-in_err-twice-clause-exclusive_or
+returns-in_err-twice-clause-exclusive_or g c =
+    xor_twice_refuses g.K.Kind.NAME c.args.builder.now c.mul.new.self c.scale.new.self _ (plain g.K.Kind.extra_of c.args.a) (plain g.K.Kind.extra_of c.args.b)
+    (plain g.K.Kind.extra_of c.in_ok-product.product) (plain g.K.Kind.extra_of) c.from_residual-in_err-twice.result c.in_err-twice.field-0.0 refl
+    c.from_residual-in_err-twice.ensures.1 c.in_ok-product.ensures.keeps c.in_ok-product.ensures.product c.in_err-twice.ensures.keeps c.in_err-twice.ensures.multiple
+
 pub add-requires-clause-a_good : goal.add-requires-clause-a_good
-add-requires-clause-a_good c =
-    still_edge c.args.builder.now c.scale.new.self c.args.a.now
+add-requires-clause-a_good g c κs within =
+    still_edge g.K.Kind.NAME c.args.builder.now c.scale.new.self (plain g.K.Kind.extra_of c.args.a)
     (keeps_on c.args.builder.now c.mul.new.self c.scale.new.self c.in_ok-product.ensures.keeps c.in_ok-twice.ensures.keeps) c.requires.a_good
 
 pub add-requires-clause-b_good : goal.add-requires-clause-b_good
-add-requires-clause-b_good c =
-    still_edge c.args.builder.now c.scale.new.self c.args.b.now
+add-requires-clause-b_good g c κs within =
+    still_edge g.K.Kind.NAME c.args.builder.now c.scale.new.self (plain g.K.Kind.extra_of c.args.b)
     (keeps_on c.args.builder.now c.mul.new.self c.scale.new.self c.in_ok-product.ensures.keeps c.in_ok-twice.ensures.keeps) c.requires.b_good
 
+pub returns-in_err-sum-clause-keeps : goal.returns-in_err-sum-clause-keeps
+returns-in_err-sum-clause-keeps g c =
+    keeps_on c.args.builder.now c.scale.new.self c.add.new.self
+    (keeps_on c.args.builder.now c.mul.new.self c.scale.new.self c.in_ok-product.ensures.keeps c.in_ok-twice.ensures.keeps) c.in_err-sum.ensures.keeps
+
+pub returns-in_err-sum-clause-exclusive_or : goal.returns-in_err-sum-clause-exclusive_or
+returns-in_err-sum-clause-exclusive_or g c =
+    xor_sum_refuses g.K.Kind.NAME c.args.builder.now c.mul.new.self c.scale.new.self c.add.new.self _ (plain g.K.Kind.extra_of c.args.a)
+    (plain g.K.Kind.extra_of c.args.b) (plain g.K.Kind.extra_of c.in_ok-product.product) (plain g.K.Kind.extra_of c.in_ok-twice.twice) (plain g.K.Kind.extra_of)
+    c.from_residual-in_err-sum.result c.in_err-sum.field-0.0 refl c.from_residual-in_err-sum.ensures.1 c.in_ok-product.ensures.keeps
+    c.in_ok-product.ensures.product c.in_ok-twice.ensures.keeps c.in_ok-twice.ensures.multiple c.in_err-sum.ensures.keeps c.in_err-sum.ensures.sum
+
+pub sub-requires-clause-a_good : goal.sub-requires-clause-a_good
+sub-requires-clause-a_good g c κs within =
+    let k = g.K.Kind.NAME in
+    let x = c.scale.new.self in
+    let keeps = keeps_on c.args.builder.now c.mul.new.self x c.in_ok-product.ensures.keeps c.in_ok-twice.ensures.keeps in
+    let a = still_edge k c.args.builder.now x (plain g.K.Kind.extra_of c.args.a) keeps c.requires.a_good in
+    let b = still_edge k c.args.builder.now x (plain g.K.Kind.extra_of c.args.b) keeps c.requires.b_good in
+    good_at k c.add.new.self (plain g.K.Kind.extra_of c.in_ok-sum.sum) 0 _ (c.in_ok-sum.ensures.sum 0 a.0 b.0 a.1 b.1).stands
+
 pub sub-requires-clause-b_good : goal.sub-requires-clause-b_good
-sub-requires-clause-b_good c =
-    still_edge c.scale.new.self c.add.new.self c.in_ok-twice.twice c.in_ok-sum.ensures.keeps c.in_ok-twice.ensures.multiple.good
+sub-requires-clause-b_good g c κs within =
+    let k = g.K.Kind.NAME in
+    let a = c.requires.a_good in
+    let b = c.requires.b_good in
+    let twice = plain g.K.Kind.extra_of c.in_ok-twice.twice in
+    still_edge k c.scale.new.self c.add.new.self twice c.in_ok-sum.ensures.keeps
+    (good_at k c.scale.new.self twice 0 _ (c.in_ok-twice.ensures.multiple 0 _ (c.in_ok-product.ensures.product 0 a.0 b.0 a.1 b.1).stands).stands)
+
+pub returns-clause-keeps : goal.returns-clause-keeps
+returns-clause-keeps g c =
+    keeps_on c.args.builder.now c.add.new.self c.sub.new.self
+    (keeps_on c.args.builder.now c.scale.new.self c.add.new.self
+    (keeps_on c.args.builder.now c.mul.new.self c.scale.new.self c.in_ok-product.ensures.keeps c.in_ok-twice.ensures.keeps) c.in_ok-sum.ensures.keeps)
+    c.sub.ensures.keeps
 
 pub returns-clause-exclusive_or : goal.returns-clause-exclusive_or
-returns-clause-exclusive_or c =
-    let v = c.args.builder.now in
-    let v1 = c.mul.new.self in
-    let v2 = c.scale.new.self in
-    let v3 = c.add.new.self in
-    let a = c.args.a.now in
-    let b = c.args.b.now in
-    let first = c.in_ok-product.ensures.keeps in
-    let second = c.in_ok-twice.ensures.keeps in
-    let third = c.in_ok-sum.ensures.keeps in
-    let before = keeps_on v v1 v2 first second in
-    let sum = moved (λ x y. x +ℤ y) v v2 v3 v3 a b c.in_ok-sum.sum before c.in_ok-sum.ensures.sum (keeps_itself v3) in
-    let made =
-    each_after (λ x. pos 2 *ℤ x) (λ x y. x *ℤ y) v v1 v2 a b c.in_ok-product.product c.in_ok-twice.twice
-    first c.in_ok-product.ensures.product c.in_ok-twice.ensures.multiple in
-    let twice = moved (λ x y. pos 2 *ℤ (x *ℤ y)) v v v2 v3 a b c.in_ok-twice.twice (keeps_itself v) made third in
-    if_ok_map c.sub.result (IsOfBoth (λ x y. x -ℤ y) v3 c.sub.new.self c.in_ok-sum.sum c.in_ok-twice.twice) _
-    (λ e h.
-    combined (λ x y. x -ℤ y) (λ x y. x +ℤ y) (λ x y. pos 2 *ℤ (x *ℤ y)) v v3 c.sub.new.self a b c.in_ok-sum.sum c.in_ok-twice.twice e
-    (keeps_on v v2 v3 before third) sum twice h)
-    c.sub.ensures.difference
-
-pub returns-in_err-product-clause-causes : goal.returns-in_err-product-clause-causes
-returns-in_err-product-clause-causes c =
-    let v = c.args.builder.now in
-    let v1 = c.mul.new.self in
-    let a = c.args.a.now in
-    let b = c.args.b.now in
-    let first = multiplied xor_made v v1 a b c.mul.result c.mul.ensures.keeps c.mul.ensures.causes in
-    two_causes (with_product xor_made v) v v1 a b c.mul.result c.from_residual.result first
-    (came_up c.from_residual.result c.mul.result c.in_err-product.field-0.0 c.in_err-product.was c.from_residual.ensures.1)
-
-pub returns-in_err-twice-clause-causes : goal.returns-in_err-twice-clause-causes
-returns-in_err-twice-clause-causes c =
-    let v = c.args.builder.now in
-    let v1 = c.mul.new.self in
-    let a = c.args.a.now in
-    let b = c.args.b.now in
-    let first = multiplied xor_made v v1 a b c.mul.result c.mul.ensures.keeps c.mul.ensures.causes in
-    let v2 = c.scale.new.self in
-    let second = xor_doubled v v1 v2 a b c.in_ok-product.product c.mul.result c.scale.result c.in_ok-product.ensures.product first c.scale.ensures.keeps c.scale.ensures.causes in
-    two_causes (with_product xor_made v) v v2 a b c.scale.result c.from_residual-in_err-twice.result second
-    (came_up c.from_residual-in_err-twice.result c.scale.result c.in_err-twice.field-0.0 c.in_err-twice.was c.from_residual-in_err-twice.ensures.1)
-
-pub returns-in_err-sum-clause-causes : goal.returns-in_err-sum-clause-causes
-returns-in_err-sum-clause-causes c =
-    let v = c.args.builder.now in
-    let v1 = c.mul.new.self in
-    let a = c.args.a.now in
-    let b = c.args.b.now in
-    let first = multiplied xor_made v v1 a b c.mul.result c.mul.ensures.keeps c.mul.ensures.causes in
-    let v2 = c.scale.new.self in
-    let second = xor_doubled v v1 v2 a b c.in_ok-product.product c.mul.result c.scale.result c.in_ok-product.ensures.product first c.scale.ensures.keeps c.scale.ensures.causes in
-    let third = xor_added v v2 c.add.new.self a b c.scale.result c.add.result second c.add.ensures.keeps c.add.ensures.causes in
-    two_causes (with_product xor_made v) v c.add.new.self a b c.add.result c.from_residual-in_err-sum.result third
-    (came_up c.from_residual-in_err-sum.result c.add.result c.in_err-sum.field-0.0 c.in_err-sum.was c.from_residual-in_err-sum.ensures.1)
-
-pub returns-clause-causes : goal.returns-clause-causes
-returns-clause-causes c =
-    let v = c.args.builder.now in
-    let v1 = c.mul.new.self in
-    let a = c.args.a.now in
-    let b = c.args.b.now in
-    let first = multiplied xor_made v v1 a b c.mul.result c.mul.ensures.keeps c.mul.ensures.causes in
-    let v2 = c.scale.new.self in
-    let second = xor_doubled v v1 v2 a b c.in_ok-product.product c.mul.result c.scale.result c.in_ok-product.ensures.product first c.scale.ensures.keeps c.scale.ensures.causes in
-    let v3 = c.add.new.self in
-    let third = xor_added v v2 v3 a b c.scale.result c.add.result second c.add.ensures.keeps c.add.ensures.causes in
-    let sum = moved (λ x y. x +ℤ y) v v2 v3 v3 a b c.in_ok-sum.sum second.keeps c.in_ok-sum.ensures.sum (keeps_itself v3) in
-    let twice : (l : ℕ) (t u : Table) → l ≤ length v.letters → StandsAt v l t a → StandsAt v l u b → StandsAt v3 l (multiple (pos 2) (times t u)) c.in_ok-twice.twice =
-    λ l t u within h g.
-    stays v2 v3 l _ c.in_ok-twice.twice c.in_ok-sum.ensures.keeps
-    (c.in_ok-twice.ensures.multiple.table l (times t u) (rw (first.keeps.letters) within) (c.in_ok-product.ensures.product.table l t u within h g)) in
-    let fourth = xor_subtracted v v3 c.sub.new.self a b c.in_ok-sum.sum c.in_ok-twice.twice c.add.result c.sub.result sum twice third c.sub.ensures.keeps c.sub.ensures.causes in
-    two_causes (with_product xor_made v) v c.sub.new.self a b c.sub.result c.sub.result fourth refl
+returns-clause-exclusive_or g c =
+    xor_answers g.K.Kind.NAME c.args.builder.now c.mul.new.self c.scale.new.self c.add.new.self c.sub.new.self _ (plain g.K.Kind.extra_of c.args.a)
+    (plain g.K.Kind.extra_of c.args.b) (plain g.K.Kind.extra_of c.in_ok-product.product) (plain g.K.Kind.extra_of c.in_ok-twice.twice)
+    (plain g.K.Kind.extra_of c.in_ok-sum.sum) (answered (plain g.K.Kind.extra_of) c.sub.result) refl c.in_ok-product.ensures.keeps c.in_ok-product.ensures.product
+    c.in_ok-twice.ensures.keeps c.in_ok-twice.ensures.multiple c.in_ok-sum.ensures.keeps c.in_ok-sum.ensures.sum c.sub.ensures.keeps c.sub.ensures.difference
