@@ -1,4 +1,5 @@
 -- The nets that a check needs: their order, their tables, and which of them are built.
+use Rattle.word_base.specs.declared.kind_name.KindName.{KindName}
 use Rattle.std.proofs.Common.{◌≡◌, refl, sym, ◌∙◌, ap, subst, ℕ, zero, suc, ◌+◌, ◌-◌, ◌<◌, ◌≤◌, pos, Bool, true, false, ◌&&◌, List, [], ◌∷◌, ◌++◌, length, take, drop, get_or, arith, inl, inr, ⊎_elim, map}
 use Rattle.std.specs.Prelude.{◌⊎◌, All, Contains, IfSome, Option, Some, None, slice_get, nat_lt}
 use Rattle.std.proofs.lemmas.Bool.{ltb-true, or_left, or_right}
@@ -21,37 +22,19 @@ use Rattle.spec_lang.specs.Value.{nets_of}
 use Rattle.spec_lang.specs.WellFormed.{IsOver, IsWellFormed}
 use Rattle.spec_lang.proofs.Naming.{named_net_from}
 use Rattle.spec_lang.proofs.Placed.{place_in-at}
-use Rattle.tables.proofs.TableLaws.{both_halves}
-use Rattle.tables.specs.Table.{Table, halves, constant_table}
+use Rattle.tables.specs.Table.{Table, variable_table}
 use Rattle.checks.specs.Sides.{net_table}
-use Rattle.tables.specs.Table as tables
 use Rattle.checks.specs.Work.{gate_table}
 use Rattle.checks.proofs.GateTables.{gate_tables}
 use Rattle.checks.proofs.InputTables.{input_tables}
-use Rattle.diagram.specs.Results.{lifted, variable_table}
-use Rattle.diagram.specs.View.{View}
-use Rattle.kind_laws.specs.declared.edge.Edge.{Edge}
+use Rattle.builder.specs.View.{View}
+use Rattle.kinds.specs.Plain.{PlainEdge}
 use Rattle.word_apply.specs.Applied.{AreEdges}
 use Rattle.cone_builder.specs.Built.{AreBuilt, AreGates, AreVariables, ComeAfter, NetsAreBuilt, is_marked, or_listed}
 use Rattle.cone_builder.proofs.BuiltLaws.{fewer_built}
 use Rattle.cone_builder.proofs.GateLaws.{reads_some}
 
 -- ---- the variables
-lifted_input : (n level : ℕ) → level < n →
-    lifted level (halves (constant_table (n - (level + 1)) (pos 0)) (constant_table (n - (level + 1)) (pos 1))) ≡ tables.variable_table n level
-lifted_input zero level low = absurd (omega arith)
-lifted_input (suc n) zero low =
-    let same : suc n - (0 + 1) ≡ n = omega arith in
-    ap (λ (k : ℕ). halves (constant_table k (pos 0)) (constant_table k (pos 1))) same
-lifted_input (suc n) (suc level) low =
-    let same : suc n - (suc level + 1) ≡ n - (level + 1) = omega arith in
-    let rest = ap (λ (k : ℕ). lifted level (halves (constant_table k (pos 0)) (constant_table k (pos 1)))) same ∙ lifted_input n level (omega arith) in
-    both_halves rest rest
-
-variable_is_input : (v : View) (level : ℕ) → level < length v.letters → variable_table v level ≡ tables.variable_table (length v.letters) level
-variable_is_input v level low =
-    ap (λ (k : ℕ). lifted level (halves (constant_table k (pos 0)) (constant_table k (pos 1)))) (length-drop (level + 1) v.letters) ∙ lifted_input (length v.letters) level low
-
 pub below_length : {X : Type 0} (xs : List X) (i : ℕ) (net : X) → slice_get xs i ≡ Some net → i < length xs
 below_length [] i net at = absurd (cc)
 below_length (x ∷ xs) zero net at = omega arith
@@ -63,9 +46,8 @@ are_variables c s v over good letters = λ level net at.
     let has = subst (λ (n : ℕ). Contains s.order n) (get_or_from_slice_get s.order level net 0 at) (Contains-get_or s.order level 0 low) in
     let input : net < input_count c = rw (← over.inputs) ((good.order.each_input net).0 has) in
     let many : length v.letters ≡ length s.order = ap length letters ∙ good.one_letter_each in
-    let also : level < length v.letters = omega (arith, low, many) in
-    input_tables c s net input ∙ ap (tables.variable_table (length s.order)) (place_in-at s.order level net good.order.no_input_twice at)
-    ∙ sym (variable_is_input v level also ∙ ap (λ (n : ℕ). tables.variable_table n level) many)
+    input_tables c s net input ∙ ap (variable_table (length s.order)) (place_in-at s.order level net good.order.no_input_twice at)
+    ∙ ap (λ (n : ℕ). variable_table n level) (sym many)
 
 -- ---- the gates
 gates_at : (c : Circuit) (s : Specification) (net : ℕ) (o : Option Gate) → IsSound c → IsAccepted c → gate_of c net ≡ o →
@@ -167,24 +149,24 @@ all_inputs c s over good =
     All-from_get_or (λ net. net < input_count c) s.order 0
     (λ i low. rw (← over.inputs) ((good.order.each_input (get_or s.order i 0)).0 (Contains-get_or s.order i 0 low)))
 
-pub written_back : (n : ℕ) (old new : List Edge) → n ≡ length old → length new ≡ length old → take n (new ++ drop (length new) old) ≡ new
+pub written_back : (n : ℕ) (old new : List PlainEdge) → n ≡ length old → length new ≡ length old → take n (new ++ drop (length new) old) ≡ new
 written_back n old new whole same =
-    ap (λ (rest : List Edge). take n (new ++ rest)) (ap (λ (k : ℕ). drop k old) same ∙ drop-length old)
+    ap (λ (rest : List PlainEdge). take n (new ++ rest)) (ap (λ (j : ℕ). drop j old) same ∙ drop-length old)
     ∙ ap (take n) (append-nil new) ∙ take_all n new (omega (arith, whole, same))
 
-pub nets_are_built : (c : Circuit) (s : Specification) (number : ℕ) (named gates : List ℕ) (marks : List Bool) (v w : View) (edges : List Edge) → IsOver c s → IsWellFormed s → IsSound c → IsAccepted c →
+pub nets_are_built : (k : KindName) (c : Circuit) (s : Specification) (number : ℕ) (named gates : List ℕ) (marks : List Bool) (v w : View) (edges : List PlainEdge) → IsOver c s → IsWellFormed s → IsSound c → IsAccepted c →
     v.letters ≡ s.letters → number < length s.checks → IfSome (slice_get s.checks number) (λ check. named ≡ nets_named s check) →
-    ((n : ℕ) → n < net_count c → bit_of marks n ≡ is_in_cone c named n) → gates ≡ cone c named → length edges ≡ net_count c → AreEdges w edges →
+    ((n : ℕ) → n < net_count c → bit_of marks n ≡ is_in_cone c named n) → gates ≡ cone c named → length edges ≡ net_count c → AreEdges k w edges →
     ((table : ℕ → Table) → AreVariables v s.order table → AreGates c table → ComeAfter c (is_marked s.order marks) gates →
-    AreBuilt w table (or_listed (is_marked s.order marks) gates) edges) → NetsAreBuilt c s number w edges
-nets_are_built c s number named gates marks v w edges over good sound accepted letters low is tells cone_is many all_good makes =
+    AreBuilt k w table (or_listed (is_marked s.order marks) gates) edges) → NetsAreBuilt k c s number w edges
+nets_are_built k c s number named gates marks v w edges over good sound accepted letters low is tells cone_is many all_good makes =
     let check = check_there s number low in
     let same : named ≡ nets_named s check.0 = if_some_at (slice_get s.checks number) check.0 (λ x. named ≡ nets_named s x) check.1 is in
     record {
       many = many;
       good = all_good;
-      built = subst (λ (o : Option Check). IfSome o (λ x. AreBuilt w (net_table c s) (is_among (nets_named s x)) edges)) (sym check.1)
-          (fewer_built w (net_table c s) (or_listed (is_marked s.order marks) gates) (is_among (nets_named s check.0)) edges
+      built = subst (λ (o : Option Check). IfSome o (λ x. AreBuilt k w (net_table c s) (is_among (nets_named s x)) edges)) (sym check.1)
+          (fewer_built k w (net_table c s) (or_listed (is_marked s.order marks) gates) (is_among (nets_named s check.0)) edges
           (λ net p.
           named_built c s named gates marks net over good accepted tells cone_is
           (named_below c s check.0 net over (Contains-from_among (nets_named s check.0) net p)) (subst (λ (ns : List ℕ). is_among ns net ≡ true) (sym same) p))

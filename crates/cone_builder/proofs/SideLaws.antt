@@ -4,7 +4,7 @@ use Rattle.std.specs.Prelude.{All, Contains, Result, Some, None, slice_get, slic
 use Rattle.std.proofs.lemmas.List.Elements.{Contains-append_left, Contains-append_right, All-from_get_or, All-get_or, All-head, All-tail, Contains-get_or}
 use Rattle.std.proofs.lemmas.Option.{get_or_from_slice_get}
 use Rattle.word_base.specs.declared.decomp.Decomp.{Decomp}
-use Rattle.word_base.specs.declared.kind_name.KindName.TheVariants.{Hdd}
+use Rattle.word_base.specs.declared.kind_name.KindName.{KindName}
 use Rattle.circuits.specs.Circuit.{Circuit, net_count}
 use Rattle.circuits.specs.Order.{is_among}
 use Rattle.circuits.proofs.Members.{Contains-head, among-from_Contains}
@@ -20,38 +20,37 @@ use Rattle.checks.specs.FormulaWork.{formula_work}
 use Rattle.checks.specs.Sides.{net_table, side}
 use Rattle.checks.proofs.FormulaTables.{formula_tables}
 use Rattle.checks.proofs.WordTables.{word_tables}
-use Rattle.kind_laws.specs.Edge.{root_of}
-use Rattle.kind_laws.specs.declared.edge.Edge.{Edge}
-use Rattle.kind_laws.proofs.GraphLaws.{same_table_of_edge}
-use Rattle.diagram.specs.declared.builder.Limit.{Limit}
-use Rattle.diagram.specs.Causes.{Causes}
-use Rattle.diagram.specs.View.{View, find_in, StandsAt}
-use Rattle.diagram.proofs.EdgeLaws.{allows_all}
-use Rattle.word_apply.specs.Applied.{AllStand, AreEdges, CausesOfAll, IsFormulaOf, formula_table}
+use Rattle.kinds.specs.Plain.{PlainEdge}
+use Rattle.kinds.proofs.GraphLaws.{same_table_of_edge}
+use Rattle.builder.specs.declared.limit.Limit.{Limit}
+use Rattle.builder.specs.Answers.{Answers}
+use Rattle.builder.specs.View.{View, StandsAt}
+use Rattle.record_store.specs.StoreView.{find_in}
+use Rattle.word_apply.specs.Applied.{AllStand, AreEdges, IsOfAll, formula_table, formula_at, formula_work_at}
 use Rattle.cone_builder.specs.Built.{AreBuilt, AreWords, NetsAreBuilt, or_listed}
 use Rattle.cone_builder.proofs.BuiltLaws.{no_edge, none_built}
 use Rattle.cone_builder.proofs.NetLaws.{below_length, if_some_at, nets_below}
 
 -- ---- the table that each edge stands for
-tables_of : (v : View) (es : List Edge) → AreEdges v es → List Table
-tables_of v [] good = []
-tables_of v (e ∷ es) good = good.0.0 ∷ tables_of v es good.1
+tables_of : (k : KindName) (v : View) (es : List PlainEdge) → AreEdges k v es → List Table
+tables_of k v [] good = []
+tables_of k v (e ∷ es) good = good.0.0 ∷ tables_of k v es good.1
 
-tables_stand : (v : View) (es : List Edge) (good : AreEdges v es) → AllStand v 0 (tables_of v es good) es
+tables_stand : (k : KindName) (v : View) (es : List PlainEdge) (good : AreEdges k v es) → AllStand k v 0 (tables_of k v es good) es
 unfolding tables_of
-tables_stand v [] good = tt
-tables_stand v (e ∷ es) good = (good.0.1, tables_stand v es good.1)
+tables_stand k v [] good = tt
+tables_stand k v (e ∷ es) good = (good.0.1, tables_stand k v es good.1)
 
 -- an edge stands for no other table
-only_table : (v : View) (t u : Table) (e : Edge) → find_in v.known 0 ≡ None → StandsAt v 0 t e → StandsAt v 0 u e → t ≡ u
-only_table v t u e no_zero h g = same_table_of_edge Hdd (find_in v.known) v.letters 0 t u (root_of e) e.node (allows_all v.letters) no_zero h g
+only_table : (k : KindName) (v : View) (t u : Table) (e : PlainEdge) → StandsAt k v 0 t e → StandsAt k v 0 u e → t ≡ u
+only_table k v t u e h g = same_table_of_edge k (find_in v.store) v.letters 0 t u e.root e.node h.allowed h.no_zero h.stands g.stands
 
-tables_at : (v : View) (es : List Edge) (good : AreEdges v es) (i : ℕ) (d : Edge) (t u : Table) → i < length es → StandsAt v 0 u (slice_index_or es i d) →
-    slice_index_or (tables_of v es good) i t ≡ u
+tables_at : (k : KindName) (v : View) (es : List PlainEdge) (good : AreEdges k v es) (i : ℕ) (d : PlainEdge) (t u : Table) → i < length es → StandsAt k v 0 u (slice_index_or es i d) →
+    slice_index_or (tables_of k v es good) i t ≡ u
 unfolding tables_of
-tables_at v [] good i d t u low stands = absurd (omega arith)
-tables_at v (e ∷ es) good zero d t u low stands = only_table v good.0.0 u e refl good.0.1 stands
-tables_at v (e ∷ es) good (suc i) d t u low stands = tables_at v es good.1 i d t u (omega arith) stands
+tables_at k v [] good i d t u low stands = absurd (omega arith)
+tables_at k v (e ∷ es) good zero d t u low stands = only_table k v good.0.0 u e good.0.1 stands
+tables_at k v (e ∷ es) good (suc i) d t u low stands = tables_at k v es good.1 i d t u (omega arith) stands
 
 both_same : {p q r s : List Piece} → p ≡ q → r ≡ s → p ++ r ≡ q ++ s
 both_same {q = q} {r = r} e f = ap (λ (x : List Piece). x ++ r) e ∙ ap (λ (x : List Piece). q ++ x) f
@@ -77,28 +76,13 @@ side_of_words c s ts (product a b) all =
     ∙ ap (times (side c s a)) (side_of_words c s ts b (λ w has. all w (Contains-append_right (namings a) (namings b) w has))) ∙ sym (formula_tables.of_product c s a b)
 
 -- the tables of the edges of named words are those of the words' sides
-words_have_tables : (c : Circuit) (s : Specification) (v : View) (words : List Edge) (f : Formula) (built : ℕ → Bool) → length words ≡ length s.words →
-    (h : AreBuilt v (λ i. side c s (word i)) built words) → ((i : ℕ) → Contains (namings f) i → (i < length s.words) × (built i ≡ true)) →
-    (i : ℕ) → Contains (namings f) i → slice_index_or (tables_of v words h.good) i (entry (pos 0)) ≡ side c s (word i)
-words_have_tables c s v words f built many h named i has =
+words_have_tables : (k : KindName) (c : Circuit) (s : Specification) (v : View) (words : List PlainEdge) (f : Formula) (built : ℕ → Bool) → length words ≡ length s.words →
+    (h : AreBuilt k v (λ i. side c s (word i)) built words) → ((i : ℕ) → Contains (namings f) i → (i < length s.words) × (built i ≡ true)) →
+    (i : ℕ) → Contains (namings f) i → slice_index_or (tables_of k v words h.good) i (entry (pos 0)) ≡ side c s (word i)
+words_have_tables k c s v words f built many h named i has =
     let known = named i has in
     let low : i < length words = rw many known.0 in
-    tables_at v words h.good i no_edge (entry (pos 0)) (side c s (word i)) low (h.stand i no_edge low known.1)
-
--- an expression over the edges of words stands for the side
-pub side_stands : (c : Circuit) (s : Specification) (v w : View) (words : List Edge) (e : Edge) (f : Formula) (built : ℕ → Bool) → IsWellFormed s → v.letters ≡ s.letters →
-    length words ≡ length s.words → AreBuilt v (λ i. side c s (word i)) built words → ((i : ℕ) → Contains (namings f) i → (i < length s.words) × (built i ≡ true)) →
-    IsFormulaOf f v w words e → StandsAt w 0 (side c s f) e
-side_stands c s v w words e f built good letters many h named made =
-    subst (λ (t : Table). StandsAt w 0 t e) same (made.table 0 (tables_of v words h.good) (omega arith) (tables_stand v words h.good))
-  where
-    levels : length v.letters ≡ length s.order
-    levels = ap length letters ∙ good.one_letter_each
-
-    same : formula_table (length v.letters) (tables_of v words h.good) f ≡ side c s f
-    same =
-        ap (λ (n : ℕ). formula_table n (tables_of v words h.good) f) levels
-        ∙ side_of_words c s (tables_of v words h.good) f (words_have_tables c s v words f built many h named)
+    tables_at k v words h.good i no_edge (entry (pos 0)) (side c s (word i)) low (h.stand i no_edge low known.1)
 
 -- the same of the work
 work_of_words : (c : Circuit) (s : Specification) (ds : List Decomp) (ts : List Table) (f : Formula) →
@@ -124,20 +108,29 @@ work_of_words c s ds ts (product a b) all =
     both_same (both_same (work_of_words c s ds ts a left) (work_of_words c s ds ts b right))
     (work_same (mul_work ds 0) (side_of_words c s ts a left) (side_of_words c s ts b right))
 
--- the causes of a call on an expression are those of the side's work
-pub side_caused : {X : Type 0} (c : Circuit) (s : Specification) (v w : View) (words : List Edge) (f : Formula) (built : ℕ → Bool) (r : Result X Limit) → IsWellFormed s →
-    v.letters ≡ s.letters → length words ≡ length s.words → AreBuilt v (λ i. side c s (word i)) built words →
+-- a call on an expression, over the edges of words, is one on the side
+pub side_answers : (k : KindName) (c : Circuit) (s : Specification) (v w : View) (words : List PlainEdge) (f : Formula) (built : ℕ → Bool) (r : Result PlainEdge Limit) →
+    IsWellFormed s → v.letters ≡ s.letters → length words ≡ length s.words → AreBuilt k v (λ i. side c s (word i)) built words →
     ((i : ℕ) → Contains (namings f) i → (i < length s.words) × (built i ≡ true)) →
-    CausesOfAll (λ l ts. formula_work (drop l v.letters) l (formula_table (length (drop l v.letters)) ts) f) v w words r →
-    Causes v w (formula_work s.letters 0 (side c s) f) r
-side_caused c s v w words f built r good letters many h named call =
-    subst (λ (qs : List Piece). Causes v w qs r) same (call.causes 0 (tables_of v words h.good) (omega arith) (tables_stand v words h.good))
+    IsOfAll (formula_at f v.letters) (formula_work_at f v.letters) k v w words r → Answers k v w (formula_work s.letters 0 (side c s) f) 0 (side c s f) r
+side_answers k c s v w words f built r good letters many h named call =
+    subst (λ (t : Table). Answers k v w (formula_work s.letters 0 (side c s) f) 0 t r) same_table
+    (subst (λ (qs : List Piece). Answers k v w qs 0 (formula_table (length v.letters) ts f) r) same_work (call 0 ts (omega arith) (tables_stand k v words h.good)))
   where
-    same : formula_work v.letters 0 (formula_table (length v.letters) (tables_of v words h.good)) f ≡ formula_work s.letters 0 (side c s) f
-    same =
-        ap (λ (ds : List Decomp). formula_work ds 0 (formula_table (length ds) (tables_of v words h.good)) f) letters
-        ∙ ap (λ (n : ℕ). formula_work s.letters 0 (formula_table n (tables_of v words h.good)) f) good.one_letter_each
-        ∙ work_of_words c s s.letters (tables_of v words h.good) f (words_have_tables c s v words f built many h named)
+    ts : List Table
+    ts = tables_of k v words h.good
+
+    named_tables : (w : ℕ) → Contains (namings f) w → slice_index_or ts w (entry (pos 0)) ≡ side c s (word w)
+    named_tables = words_have_tables k c s v words f built many h named
+
+    same_table : formula_table (length v.letters) ts f ≡ side c s f
+    same_table = ap (λ (n : ℕ). formula_table n ts f) (ap length letters ∙ good.one_letter_each) ∙ side_of_words c s ts f named_tables
+
+    same_work : formula_work v.letters 0 (formula_table (length v.letters) ts) f ≡ formula_work s.letters 0 (side c s) f
+    same_work =
+        ap (λ (ds : List Decomp). formula_work ds 0 (formula_table (length ds) ts) f) letters
+        ∙ ap (λ (n : ℕ). formula_work s.letters 0 (formula_table n ts) f) good.one_letter_each
+        ∙ work_of_words c s s.letters ts f named_tables
 
 -- ---- words
 sized_there : (words : List Word) (w : ℕ) → All IsSizedWord words → w < length words → 0 < length (nets_of words w)
@@ -175,15 +168,15 @@ nets_within c s numbers n over same =
     (Contains-get_or (nets_of s.words (get_or numbers i 0)) j 0 below))))
 
 -- ---- the words that a check names
-pub words_are_built : (c : Circuit) (s : Specification) (place : ℕ) (check : Check) (v w : View) (nets old words : List Edge) (numbers : List ℕ) → IsWellFormed s →
-    slice_get s.checks place ≡ Some check → numbers ≡ words_of_check check → NetsAreBuilt c s place v nets → AreEdges v old →
-    ((of_net table : ℕ → Table) (built_nets built : ℕ → Bool) → AreWords s.words of_net table → AreBuilt v of_net built_nets nets → AreBuilt v table built old →
-    ((w net : ℕ) → Contains numbers w → Contains (nets_of s.words w) net → built_nets net ≡ true) → AreBuilt w table (or_listed built numbers) words) →
-    AreBuilt w (λ i. side c s (word i)) (or_listed (λ i. false) numbers) words
-words_are_built c s place check v w nets old words numbers good is same nets_built old_good makes =
+pub words_are_built : (k : KindName) (c : Circuit) (s : Specification) (place : ℕ) (check : Check) (v w : View) (nets old words : List PlainEdge) (numbers : List ℕ) → IsWellFormed s →
+    slice_get s.checks place ≡ Some check → numbers ≡ words_of_check check → NetsAreBuilt k c s place v nets → AreEdges k v old →
+    ((of_net table : ℕ → Table) (built_nets built : ℕ → Bool) → AreWords s.words of_net table → AreBuilt k v of_net built_nets nets → AreBuilt k v table built old →
+    ((w net : ℕ) → Contains numbers w → Contains (nets_of s.words w) net → built_nets net ≡ true) → AreBuilt k w table (or_listed built numbers) words) →
+    AreBuilt k w (λ i. side c s (word i)) (or_listed (λ i. false) numbers) words
+words_are_built k c s place check v w nets old words numbers good is same nets_built old_good makes =
     makes (net_table c s) (λ i. side c s (word i)) (is_among (nets_named s check)) (λ i. false) (are_words c s good)
-    (if_some_at (slice_get s.checks place) check (λ x. AreBuilt v (net_table c s) (is_among (nets_named s x)) nets) is nets_built.built)
-    (none_built v (λ i. side c s (word i)) old old_good)
+    (if_some_at (slice_get s.checks place) check (λ x. AreBuilt k v (net_table c s) (is_among (nets_named s x)) nets) is nets_built.built)
+    (none_built k v (λ i. side c s (word i)) old old_good)
     (λ n net has of.
     among-from_Contains (nets_named s check) net (net_of_word_named s check n net (subst (λ (ns : List ℕ). Contains ns n) same has) of))
 

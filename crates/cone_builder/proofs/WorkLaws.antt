@@ -1,4 +1,5 @@
 -- The work of building a check's sides has that of each net, gate and word that it needs.
+use Rattle.word_base.specs.declared.kind_name.KindName.{KindName}
 use Rattle.std.proofs.Common.{◌≡◌, refl, sym, ◌∙◌, ap, subst, ℕ, ◌<◌, Bool, true, false, ◌&&◌, List, [], ◌∷◌, ◌++◌, length, drop, get_or, map, arith, ⊎_elim}
 use Rattle.std.specs.Prelude.{Contains, filter, flat_map, IfSome, Result, slice_get, Some}
 use Rattle.std.specs.List.{range_with_len}
@@ -22,16 +23,17 @@ use Rattle.checks.specs.Forward.{building_work, cone_work, input_work, net_work,
 use Rattle.checks.specs.FormulaWork.{formula_work}
 use Rattle.checks.specs.Sides.{net_table, side}
 use Rattle.checks.specs.Work.{word_work}
-use Rattle.kind_laws.specs.declared.edge.Edge.{Edge}
-use Rattle.diagram.specs.declared.builder.Limit.{Limit}
-use Rattle.diagram.specs.Causes.{Causes}
-use Rattle.diagram.specs.View.{View, Keeps}
-use Rattle.word_apply.specs.Applied.{CausesOfAll, formula_table}
+use Rattle.kinds.specs.Plain.{PlainEdge}
+use Rattle.builder.specs.declared.limit.Limit.{Limit}
+use Rattle.builder.specs.Answers.{Causes}
+use Rattle.builder.specs.View.{View, Keeps}
+use Rattle.builder.proofs.CallLaws.{causes_of}
+use Rattle.word_apply.specs.Applied.{IsOfAll, formula_at, formula_work_at}
 use Rattle.cone_builder.specs.Built.{AreBuilt, AreGates, AreVariables, ComeAfter, NetsAreBuilt, is_marked, or_listed}
 use Rattle.cone_builder.specs.Causes.{Includes}
 use Rattle.cone_builder.proofs.CauseLaws.{causes_included, causes_on}
 use Rattle.cone_builder.proofs.NetLaws.{are_gates, are_variables, come_after, if_some_at, if_some_from}
-use Rattle.cone_builder.proofs.SideLaws.{named_are_built, side_caused}
+use Rattle.cone_builder.proofs.SideLaws.{named_are_built, side_answers}
 
 -- ---- membership
 map-has : {X Y : Type 0} (f : X → Y) (xs : List X) (x : X) → Contains xs x → Contains (map f xs) (f x)
@@ -112,17 +114,17 @@ input_included c s check named marks ps net over good same tells includes marked
         (filter-has (is_in_cone c (nets_named s check)) (range_with_len 0 (input_count c)) net (range-has (input_count c) net low) within))
 
 -- what the building of nets asks of the work
-abbrev pub IntoCauses : {X : Type 0} → Circuit → View → View → List ℕ → List Bool → List ℕ → Result X Limit → Type 0
-IntoCauses c v w order marks gates r =
+abbrev pub IntoCauses : {X : Type 0} → KindName → Circuit → View → View → List ℕ → List Bool → List ℕ → Result X Limit → Type 0
+IntoCauses k c v w order marks gates r =
     (table : ℕ → Table) (ps : List Piece) → AreVariables v order table → AreGates c table → ComeAfter c (is_marked order marks) gates →
     ((net : ℕ) → is_marked order marks net ≡ true → Includes ps (pieces 0 (table net ∷ []))) →
-    ((net : ℕ) → Contains gates net → Includes ps (net_work c v.letters table net)) → Causes v w ps r
+    ((net : ℕ) → Contains gates net → Includes ps (net_work c v.letters table net)) → Causes k v w ps r
 
-pub nets_caused : {X : Type 0} (c : Circuit) (s : Specification) (check : Check) (named gates : List ℕ) (marks : List Bool) (v w : View) (r : Result X Limit) (ps : List Piece) →
+pub nets_caused : {X : Type 0} (k : KindName) (c : Circuit) (s : Specification) (check : Check) (named gates : List ℕ) (marks : List Bool) (v w : View) (r : Result X Limit) (ps : List Piece) →
     IsOver c s → IsWellFormed s → IsSound c → IsAccepted c → v.letters ≡ s.letters → named ≡ nets_named s check →
-    ((n : ℕ) → n < net_count c → bit_of marks n ≡ is_in_cone c named n) → gates ≡ cone c named → IntoCauses c v w s.order marks gates r →
-    Includes ps (input_work c s check) → Includes ps (cone_work c s check) → Causes v w ps r
-nets_caused c s check named gates marks v w r ps over good sound accepted letters same tells cone_is call inputs works =
+    ((n : ℕ) → n < net_count c → bit_of marks n ≡ is_in_cone c named n) → gates ≡ cone c named → IntoCauses k c v w s.order marks gates r →
+    Includes ps (input_work c s check) → Includes ps (cone_work c s check) → Causes k v w ps r
+nets_caused k c s check named gates marks v w r ps over good sound accepted letters same tells cone_is call inputs works =
     call (net_table c s) ps (are_variables c s v over good letters) (are_gates c s sound accepted) (come_after c s named gates marks over good accepted tells cone_is)
     (λ net marked. input_included c s check named marks ps net over good same tells inputs marked)
     (λ net has.
@@ -133,18 +135,18 @@ nets_caused c s check named gates marks v w r ps over good sound accepted letter
 
 -- ---- words
 -- what the building of words asks of the work
-abbrev pub WordsCauses : {X : Type 0} → Specification → View → View → List Edge → List ℕ → Result X Limit → Type 0
-WordsCauses s v w nets numbers r =
-    (of_net : ℕ → Table) (built_nets : ℕ → Bool) (ps : List Piece) → AreBuilt v of_net built_nets nets →
+abbrev pub WordsCauses : {X : Type 0} → KindName → Specification → View → View → List PlainEdge → List ℕ → Result X Limit → Type 0
+WordsCauses k s v w nets numbers r =
+    (of_net : ℕ → Table) (built_nets : ℕ → Bool) (ps : List Piece) → AreBuilt k v of_net built_nets nets →
     ((n net : ℕ) → Contains numbers n → Contains (nets_of s.words n) net → built_nets net ≡ true) →
-    ((n : ℕ) → Contains numbers n → Includes ps (word_work 0 (map of_net (nets_of s.words n)))) → Causes v w ps r
+    ((n : ℕ) → Contains numbers n → Includes ps (word_work 0 (map of_net (nets_of s.words n)))) → Causes k v w ps r
 
-pub words_caused : {X : Type 0} (c : Circuit) (s : Specification) (place : ℕ) (check : Check) (v w : View) (nets : List Edge) (numbers : List ℕ) (r : Result X Limit) (ps : List Piece) →
-    slice_get s.checks place ≡ Some check → numbers ≡ words_of_check check → NetsAreBuilt c s place v nets → WordsCauses s v w nets numbers r →
-    Includes ps (flat_map (word_work_of c s) (words_of_check check)) → Causes v w ps r
-words_caused c s place check v w nets numbers r ps is same nets_built call works =
+pub words_caused : {X : Type 0} (k : KindName) (c : Circuit) (s : Specification) (place : ℕ) (check : Check) (v w : View) (nets : List PlainEdge) (numbers : List ℕ) (r : Result X Limit) (ps : List Piece) →
+    slice_get s.checks place ≡ Some check → numbers ≡ words_of_check check → NetsAreBuilt k c s place v nets → WordsCauses k s v w nets numbers r →
+    Includes ps (flat_map (word_work_of c s) (words_of_check check)) → Causes k v w ps r
+words_caused k c s place check v w nets numbers r ps is same nets_built call works =
     call (net_table c s) (is_among (nets_named s check)) ps
-    (if_some_at (slice_get s.checks place) check (λ x. AreBuilt v (net_table c s) (is_among (nets_named s x)) nets) is nets_built.built)
+    (if_some_at (slice_get s.checks place) check (λ x. AreBuilt k v (net_table c s) (is_among (nets_named s x)) nets) is nets_built.built)
     (λ n net has of.
     among-from_Contains (nets_named s check) net (net_of_word_named s check n net (subst (λ (ns : List ℕ). Contains ns n) same has) of))
     (λ n has.
@@ -153,17 +155,18 @@ words_caused c s place check v w nets numbers r ps is same nets_built call works
 
 -- ---- sides
 -- the causes of all before an expression, and of the expression of one side, whatever it answers
-pub side_after : {X : Type 0} (c : Circuit) (s : Specification) (place : ℕ) (check : Check) (u v w : View) (words : List Edge) (numbers : List ℕ) (f : Formula) (q : Result X Limit)
-    (r : Result Edge Limit) → IsWellFormed s → slice_get s.checks place ≡ Some check → numbers ≡ words_of_check check → v.letters ≡ s.letters → length words ≡ length s.words →
-    AreBuilt v (λ i. side c s (word i)) (or_listed (λ i. false) numbers) words → ((i : ℕ) → Contains (namings f) i → Contains (words_of_check check) i) →
-    Includes (building_work c s check) (formula_work s.letters 0 (side c s) f) → Keeps u v → Keeps v w → Causes u v (building_work c s check) q →
-    CausesOfAll (λ l ts. formula_work (drop l v.letters) l (formula_table (length (drop l v.letters)) ts) f) v w words r → Causes u w (building_work c s check) r
-side_after c s place check u v w words numbers f q r good is same letters many built within includes before keeps so_far call =
+pub side_after : {X : Type 0} (k : KindName) (c : Circuit) (s : Specification) (place : ℕ) (check : Check) (u v w : View) (words : List PlainEdge) (numbers : List ℕ) (f : Formula)
+    (q : Result X Limit) (r : Result PlainEdge Limit) → IsWellFormed s → slice_get s.checks place ≡ Some check → numbers ≡ words_of_check check → v.letters ≡ s.letters →
+    length words ≡ length s.words → AreBuilt k v (λ i. side c s (word i)) (or_listed (λ i. false) numbers) words →
+    ((i : ℕ) → Contains (namings f) i → Contains (words_of_check check) i) → Includes (building_work c s check) (formula_work s.letters 0 (side c s) f) → Keeps u v → Keeps v w →
+    Causes k u v (building_work c s check) q → IsOfAll (formula_at f v.letters) (formula_work_at f v.letters) k v w words r → Causes k u w (building_work c s check) r
+side_after k c s place check u v w words numbers f q r good is same letters many built within includes before keeps so_far call =
     let ps = building_work c s check in
-    let side_call = side_caused c s v w words f (or_listed (λ i. false) numbers) r good letters many built (named_are_built s place check numbers f good is same within) call in
-    causes_on u v w ps q r before keeps so_far (causes_included v w ps (formula_work s.letters 0 (side c s) f) r keeps includes side_call)
+    let of_side = side_answers k c s v w words f (or_listed (λ i. false) numbers) r good letters many built (named_are_built s place check numbers f good is same within) call in
+    causes_on k u v w ps q r before keeps so_far
+    (causes_included k v w ps (formula_work s.letters 0 (side c s) f) r keeps includes (causes_of k v w (formula_work s.letters 0 (side c s) f) 0 (side c s f) r of_side))
 
 -- what is known of the check of a number
-pub causes_there : {X : Type 0} (c : Circuit) (s : Specification) (place : ℕ) (check : Check) (v w : View) (r : Result X Limit) → slice_get s.checks place ≡ Some check →
-    Causes v w (building_work c s check) r → IfSome (slice_get s.checks place) (λ sides. Causes v w (building_work c s sides) r)
-causes_there c s place check v w r is caused = if_some_from (slice_get s.checks place) check (λ sides. Causes v w (building_work c s sides) r) is caused
+pub causes_there : {X : Type 0} (k : KindName) (c : Circuit) (s : Specification) (place : ℕ) (check : Check) (v w : View) (r : Result X Limit) → slice_get s.checks place ≡ Some check →
+    Causes k v w (building_work c s check) r → IfSome (slice_get s.checks place) (λ sides. Causes k v w (building_work c s sides) r)
+causes_there k c s place check v w r is caused = if_some_from (slice_get s.checks place) check (λ sides. Causes k v w (building_work c s sides) r) is caused

@@ -1,4 +1,5 @@
 -- Which edges of a list are built.
+use Rattle.word_base.specs.declared.kind_name.KindName.{KindName}
 use Rattle.std.specs.Prelude.{◌≡◌, ℕ, ◌<◌, true, Bool, ◌&&◌, ◌||◌, List, length, take, map, slice_get, slice_index_or, IfSome, Some}
 use Rattle.circuits.specs.Circuit.{Circuit, gate_of, net_count}
 use Rattle.circuits.specs.Order.{IsInput, is_among}
@@ -8,16 +9,15 @@ use Rattle.spec_lang.specs.Specification.{Word, Specification}
 use Rattle.spec_lang.specs.Value.{nets_of}
 use Rattle.checks.specs.Sides.{net_table}
 use Rattle.checks.specs.Work.{gate_table, word_table}
-use Rattle.tables.specs.Table.{Table}
-use Rattle.kind_laws.specs.declared.edge.Edge.{Edge}
-use Rattle.diagram.specs.Results.{variable_table}
-use Rattle.diagram.specs.View.{View, StandsAt}
+use Rattle.tables.specs.Table.{Table, variable_table}
+use Rattle.kinds.specs.Plain.{PlainEdge}
+use Rattle.builder.specs.View.{View, StandsAt}
 use Rattle.word_apply.specs.Applied.{AreEdges}
 
 -- all edges are good, and those at the built places stand for the tables of their places
-pub record AreBuilt (v : View) (table : ℕ → Table) (built : ℕ → Bool) (edges : List Edge) : Type 0 where
-  pub good : AreEdges v edges
-  pub stand : (i : ℕ) (d : Edge) → i < length edges → built i ≡ true → StandsAt v 0 (table i) (slice_index_or edges i d)
+pub record AreBuilt (k : KindName) (v : View) (table : ℕ → Table) (built : ℕ → Bool) (edges : List PlainEdge) : Type 0 where
+  pub good : AreEdges k v edges
+  pub stand : (i : ℕ) (d : PlainEdge) → i < length edges → built i ≡ true → StandsAt k v 0 (table i) (slice_index_or edges i d)
 
 -- listed and marked
 abbrev pub is_marked : List ℕ → List Bool → ℕ → Bool
@@ -29,7 +29,7 @@ or_listed built listed i = built i || is_among listed i
 
 -- the table of each listed net is that of the variable of its place
 abbrev pub AreVariables : View → List ℕ → (ℕ → Table) → Type 0
-AreVariables v listed table = (level net : ℕ) → slice_get listed level ≡ Some net → table net ≡ variable_table v level
+AreVariables v listed table = (level net : ℕ) → slice_get listed level ≡ Some net → table net ≡ variable_table (length v.letters) level
 
 -- the table of each gate's net is made of those of the nets that it reads
 abbrev pub AreGates : Circuit → (ℕ → Table) → Type 0
@@ -48,7 +48,7 @@ abbrev pub AreWords : List Word → (ℕ → Table) → (ℕ → Table) → Type
 AreWords words of_net table = (w : ℕ) → w < length words → table w ≡ word_table (map of_net (nets_of words w))
 
 -- the edges of all nets that the check's words name stand for the nets' tables
-pub record NetsAreBuilt (c : Circuit) (s : Specification) (number : ℕ) (v : View) (edges : List Edge) : Type 0 where
+pub record NetsAreBuilt (k : KindName) (c : Circuit) (s : Specification) (number : ℕ) (v : View) (edges : List PlainEdge) : Type 0 where
   pub many : length edges ≡ net_count c
-  pub built : IfSome (slice_get s.checks number) (λ check. AreBuilt v (net_table c s) (is_among (nets_named s check)) edges)
-  pub good : AreEdges v edges
+  pub built : IfSome (slice_get s.checks number) (λ check. AreBuilt k v (net_table c s) (is_among (nets_named s check)) edges)
+  pub good : AreEdges k v edges

@@ -3,17 +3,18 @@ use Rattle.std.specs.Prelude.{◌≡◌, IfSome, List, codes, slice_get, ℕ, re
 use Rattle.circuits.specs.Circuit.{Circuit}
 use Rattle.spec_lang.specs.Specification.{Specification}
 use Rattle.checks.specs.Sides.{side}
-use Rattle.kind_laws.specs.declared.edge.Edge.{Edge}
-use Rattle.diagram.specs.View.{View, StandsAt}
-use Rattle.diagram.specs.declared.builder.Limit.{Limit}
-use Rattle.diagram.specs.declared.builder.Limit.TheVariants as limit
+use Rattle.kinds.specs.Plain.{PlainEdge}
+use Rattle.word_base.specs.declared.kind_name.KindName.{KindName}
+use Rattle.builder.specs.View.{View, StandsAt}
+use Rattle.builder.specs.declared.limit.Limit.{Limit}
+use Rattle.builder.specs.declared.limit.Limit.TheVariants as limit
 use Rattle.cone_builder.specs.declared.build_error.BuildError.{BuildError}
 use Rattle.cone_builder.specs.declared.build_error.BuildError.TheVariants as error
 
 -- the edges stand for the tables of both sides of the check of this number
-abbrev pub AreSides : Circuit → Specification → ℕ → View → Edge → Edge → Type 0
-AreSides c s number v left right =
-    IfSome (slice_get s.checks number) (λ check. StandsAt v 0 (side c s check.left) left × StandsAt v 0 (side c s check.right) right)
+abbrev pub AreSides : KindName → Circuit → Specification → ℕ → View → PlainEdge → PlainEdge → Type 0
+AreSides k c s number v left right =
+    IfSome (slice_get s.checks number) (λ check. StandsAt k v 0 (side c s check.left) left × StandsAt k v 0 (side c s check.right) right)
 
 abbrev pub build_error_of : Limit → BuildError
 build_error_of limit.Overflow = error.Overflow

@@ -1,6 +1,6 @@
 ghost use Rattle.std.specs.Prelude.{◌≡◌};
 
-use diagram::Limit;
+use builder::Limit;
 use std::alloc::AllocError;
 use std::fmt;
 

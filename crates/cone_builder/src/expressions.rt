@@ -3,37 +3,39 @@ ghost use Rattle.checks.specs.Forward.{building_work, cone_work, input_work, net
 ghost use Rattle.cone_builder.specs.Built.{AreBuilt, AreGates, AreVariables, ComeAfter, NetsAreBuilt, is_marked, or_listed};
 ghost use Rattle.cone_builder.specs.Causes.{Includes, limit_met};
 ghost use Rattle.cone_builder.specs.Sides.{AreSides};
-ghost use Rattle.diagram.specs.Causes.{Causes};
-ghost use Rattle.diagram.specs.View.{View, Keeps};
+ghost use Rattle.builder.specs.Answers.{Causes};
+ghost use Rattle.builder.specs.View.{View, Keeps};
 ghost use Rattle.circuits.specs.Circuit.{IsGate, input_count, net_count};
 ghost use Rattle.circuits.specs.Sound.{IsSound};
 ghost use Rattle.spec_lang.specs.Specification.{Check};
 ghost use Rattle.spec_lang.specs.WellFormed.{IsOver};
 ghost use Rattle.tables.specs.Pieces.{Piece, pieces};
 ghost use Rattle.tables.specs.Table.{Table};
-ghost use Rattle.word_apply.specs.Applied.{AreEdges};
+ghost use Rattle.kinds.specs.Plain.{plain};
+ghost use Rattle.word_apply.specs.Applied.{AreEdges, plain_edges};
 
 use crate::build_error::BuildError;
 use crate::gates::build_gates;
 use crate::inputs::{build_inputs, repeated};
 use crate::words::build_words;
-use diagram::Builder;
-use kind_laws::Edge;
+use builder::Builder;
+use kinds::{Edge, Kind};
 use netlist::Netlist;
+use record_store::Store;
 use spec_lang::Spec;
 use std::alloc::Global;
 use word_apply::expression;
 use word_base::Weight;
 
 /// Builds the marked inputs, and the gates in topological order.
-fn build_into(
+fn build_into<K: Kind, S: Store>(
     alloc: Global,
-    builder: &mut Builder,
+    builder: &mut Builder<K, S>,
     netlist: &Netlist,
     order: &[u32],
     marks: &[bool],
     gates: &[u32],
-    edges: &mut [Edge],
+    edges: &mut [Edge<K>],
 ) -> Result<(), BuildError>
     requires sound { IsSound netlist.now }
     requires order { length order.now ≡ input_count netlist.now }
@@ -42,16 +44,16 @@ fn build_into(
     requires marks { length marks.now ≡ net_count netlist.now }
     requires gates { All (IsGate netlist.now) gates.now }
     requires many { length edges.old ≡ net_count netlist.now }
-    requires good { AreEdges builder.old edges.old }
+    requires good { AreEdges K.NAME builder.old (plain_edges K.extra_of edges.old) }
     ensures keeps { Keeps builder.old builder.new }
-    ensures good { OnOk result (AreEdges builder.new edges.new) }
+    ensures good { OnOk result (AreEdges K.NAME builder.new (plain_edges K.extra_of edges.new)) }
     ensures built { OnOk result ((table : ℕ → Table) → AreVariables builder.old order.now table → AreGates netlist.now table →
         ComeAfter netlist.now (is_marked order.now marks.now) gates.now →
-        AreBuilt builder.new table (or_listed (is_marked order.now marks.now) gates.now) edges.new) }
+        AreBuilt K.NAME builder.new table (or_listed (is_marked order.now marks.now) gates.now) (plain_edges K.extra_of edges.new)) }
     ensures causes { (table : ℕ → Table) (ps : List Piece) → AreVariables builder.old order.now table → AreGates netlist.now table →
         ComeAfter netlist.now (is_marked order.now marks.now) gates.now →
         ((net : ℕ) → is_marked order.now marks.now net ≡ true → Includes ps (pieces 0 (table net ∷ []))) →
-        ((net : ℕ) → Contains gates.now net → Includes ps (net_work netlist.now builder.old.letters table net)) → Causes builder.old builder.new ps (limit_met result) }
+        ((net : ℕ) → Contains gates.now net → Includes ps (net_work netlist.now builder.old.letters table net)) → Causes K.NAME builder.old builder.new ps (limit_met result) }
 {
     build_inputs(builder, order, marks, edges)?;
     let mut inputs = Vec::new(alloc);
@@ -59,26 +61,26 @@ fn build_into(
 }
 
 /// The edge of each net that the check needs, by its number.
-fn build_nets(
+fn build_nets<K: Kind, S: Store>(
     alloc: Global,
-    builder: &mut Builder,
+    builder: &mut Builder<K, S>,
     netlist: &Netlist,
     spec: &Spec,
     check: u32,
-) -> Result<Vec<Edge>, BuildError>
+) -> Result<Vec<Edge<K>>, BuildError>
     requires over { IsOver netlist.now spec.now }
     requires levels { builder.old.letters ≡ spec.now.letters }
     requires check { check < length spec.now.checks }
     ensures keeps { Keeps builder.old builder.new }
-    ensures built { IfOk result (λ edges. NetsAreBuilt netlist.now spec.now check builder.new edges.items) }
+    ensures built { IfOk result (λ edges. NetsAreBuilt K.NAME netlist.now spec.now check builder.new (plain_edges K.extra_of edges.items)) }
     ensures causes { (sides : Check) (ps : List Piece) → slice_get spec.now.checks check ≡ Some sides → Includes ps (input_work netlist.now spec.now sides) →
-        Includes ps (cone_work netlist.now spec.now sides) → Causes builder.old builder.new ps (limit_met result) }
+        Includes ps (cone_work netlist.now spec.now sides) → Causes K.NAME builder.old builder.new ps (limit_met result) }
 {
     let count = netlist.inputs() as usize + netlist.gates() as usize;
     let named = spec.named(check)?;
     let marks = netlist.reached(&named)?;
     let gates = netlist.cone(&named)?;
-    let mut edges = repeated(alloc, &builder.constant(Weight::ZERO), count)?;
+    let mut edges = repeated(alloc, builder.constant(Weight::ZERO), count)?;
     build_into(
         alloc,
         builder,
@@ -93,27 +95,23 @@ fn build_nets(
 
 /// The edges of the left and the right side of a check, whose tables are over the inputs in the order of the
 /// specification.
-pub fn build_one(
+pub fn build_one<K: Kind, S: Store>(
     alloc: Global,
-    builder: &mut Builder,
+    builder: &mut Builder<K, S>,
     netlist: &Netlist,
     spec: &Spec,
     check: u32,
-) -> Result<(Edge, Edge), BuildError>
+) -> Result<(Edge<K>, Edge<K>), BuildError>
     requires over { IsOver netlist.now spec.now }
     requires levels { builder.old.letters ≡ spec.now.letters }
     requires check { check < length spec.now.checks }
     ensures keeps { Keeps builder.old builder.new }
-    ensures sides { IfOk result (λ sides. AreSides netlist.now spec.now check builder.new sides.0 sides.1) }
-    ensures causes { IfSome (slice_get spec.now.checks check) (λ sides. Causes builder.old builder.new (building_work netlist.now spec.now sides) (limit_met result)) }
+    ensures sides { IfOk result (λ sides. AreSides K.NAME netlist.now spec.now check builder.new (plain K.extra_of sides.0) (plain K.extra_of sides.1)) }
+    ensures causes { IfSome (slice_get spec.now.checks check) (λ sides. Causes K.NAME builder.old builder.new (building_work netlist.now spec.now sides) (limit_met result)) }
 {
     let nets = build_nets(alloc, builder, netlist, spec, check)?;
     let numbers = spec.words_named(check)?;
-    let mut words = repeated(
-        alloc,
-        &builder.constant(Weight::ZERO),
-        spec.words() as usize,
-    )?;
+    let mut words = repeated(alloc, builder.constant(Weight::ZERO), spec.words() as usize)?;
     let mut bits = Vec::new(alloc);
     build_words(
         builder,

@@ -1,40 +1,16 @@
-use Rattle.std.proofs.Common.{◌≡◌, refl, subst, take, get_or, List, ℕ, arith}
-use Rattle.std.proofs.lemmas.List.{take_all}
-use Rattle.word_apply.proofs.FoldLaws.{still_edges}
-use Rattle.std.specs.Prelude.{Ok}
-use Rattle.cone_builder.specs.Built.{AreBuilt, or_listed}
-use Rattle.cone_builder.specs.Causes.{limit_met}
-use Rattle.cone_builder.proofs.CauseLaws.{error_refused, next_word_causes}
-use Rattle.cone_builder.proofs.WordLaws.{no_words, one_more_word}
 use Rattle.cone_builder.proofs.words.build_words.Goals as goal
 
 pub loop-number-init : goal.loop-number-init
-loop-number-init c = no_words c.args.spec.now.words c.args.builder.now c.args.numbers.now c.args.nets.now c.args.words.now c.requires.nets_good c.requires.good
+loop-number-init g c = ?
 
 pub loop-number-preserved : goal.loop-number-preserved
-loop-number-preserved c =
-    let place = c.loop-number.number-index in
-    one_more_word c.args.spec.now.words c.args.builder.now c.loop-number.builder c.build_word.new.builder c.args.numbers.now place (get_or c.args.numbers.now place 0)
-    c.args.nets.now c.args.words.now c.loop-number.words c.build_word.new.words c.loop-number-test.true refl c.loop-number.invariant
-    c.in_ok-build_word.ensures.keeps c.build_word.auto.words
-    (still_edges c.loop-number.builder c.build_word.new.builder c.args.nets.now c.in_ok-build_word.ensures.keeps c.loop-number.invariant.nets_good)
-    c.in_ok-build_word.ensures.good c.in_ok-build_word.ensures.built
-    (next_word_causes c.args.spec.now.words c.args.builder.now c.loop-number.builder c.build_word.new.builder c.args.numbers.now place (get_or c.args.numbers.now place 0)
-    c.args.nets.now c.args.words.now c.loop-number.words (Ok tt) c.loop-number-test.true refl c.loop-number.invariant c.in_ok-build_word.ensures.keeps c.in_ok-build_word.ensures.causes)
+loop-number-preserved g c = ?
 
 pub returns-clause-built : goal.returns-clause-built
-returns-clause-built c = λ of_net table built_nets built are nets_built h named.
-    let all : take c.loop-number.number-index c.args.numbers.now ≡ c.args.numbers.now = take_all c.loop-number.number-index c.args.numbers.now (omega arith) in
-    subst (λ (listed : List ℕ). AreBuilt c.loop-number.builder table (or_listed built listed) c.loop-number.words) all
-    (c.loop-number.invariant.built of_net table built_nets built are nets_built h named)
+returns-clause-built g c = ?
 
 pub returns-in_err-build_word-clause-causes : goal.returns-in_err-build_word-clause-causes
-returns-in_err-build_word-clause-causes c = λ of_net built_nets ps h named each_of.
-    let place = c.loop-number.number-index in
-    error_refused c.args.builder.now c.build_word.new.builder ps c.from_residual.result c.build_word.result c.in_err-build_word.field-0.0 c.in_err-build_word.was c.from_residual.ensures.1
-    (next_word_causes c.args.spec.now.words c.args.builder.now c.loop-number.builder c.build_word.new.builder c.args.numbers.now place (get_or c.args.numbers.now place 0)
-    c.args.nets.now c.args.words.now c.loop-number.words (limit_met c.build_word.result) c.loop-number-test.true refl c.loop-number.invariant c.build_word.ensures.keeps
-    c.build_word.ensures.causes of_net built_nets ps h named each_of)
+returns-in_err-build_word-clause-causes g c = ?
 
 pub returns-clause-causes : goal.returns-clause-causes
-returns-clause-causes c = c.loop-number.invariant.caused
+returns-clause-causes g c = ?
