@@ -1,1 +1,3 @@
+pub mod CoverLaws
+pub mod StepLaws
 pub mod WalkLaws
