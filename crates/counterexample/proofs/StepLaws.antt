@@ -1,28 +1,27 @@
 -- A step of the walk: what it chooses from on each side, and where it turns.
-use Rattle.std.proofs.Common.{◌≡◌, refl, sym, ◌∙◌, ap, subst, ℕ, suc, ◌+◌, ◌<◌, Bool, true, false, List, [], ◌∷◌, length, drop, Decides, arith, inl}
-use Rattle.std.specs.Prelude.{Result, Ok, Err, IfOk, IsTrue, ◌↔◌, if◌then◌else◌}
+use Rattle.std.proofs.Common.{◌≡◌, refl, sym, ◌∙◌, ap, subst, ℕ, ◌+◌, ◌<◌, Bool, true, false, List, length, Decides, arith, inl}
+use Rattle.std.specs.Prelude.{Result, Ok, Err, IsTrue, ◌↔◌, if◌then◌else◌}
 use Rattle.std.specs.Result.{IsErrAnd}
 use Rattle.std.proofs.lemmas.Bool.Decides.{same_from_decides}
 use Rattle.word_base.specs.declared.decomp.Decomp.{Decomp}
-use Rattle.word_base.specs.declared.decomp.Decomp.TheVariants.{S, P, N}
+use Rattle.word_base.specs.declared.decomp.Decomp.TheVariants.{N}
 use Rattle.word_base.specs.declared.kind_name.KindName.{KindName}
 use Rattle.word_base.specs.declared.weight.Overflow.{Overflow}
 use Rattle.tables.specs.Table.{Table, IsOver, plus, part0, part1, same_table}
-use Rattle.tables.specs.Pieces.{Piece, pieces, add_work, SomeUnfit}
-use Rattle.tables.proofs.PieceLaws.{Covers, HasLetter}
-use Rattle.checks.specs.Work.{tried, other, walk_step}
+use Rattle.tables.specs.Pieces.{add_work}
+use Rattle.tables.proofs.PieceLaws.{HasLetter}
+use Rattle.checks.specs.Work.{tried, other}
 use Rattle.checks.proofs.FirstDifference.{same_table-same, same_table-refl}
 use Rattle.kinds.specs.Plain.{PlainEdge, answered}
-use Rattle.builder.specs.Answers.{HasCause, Causes, Answers}
+use Rattle.builder.specs.Answers.{Answers}
 use Rattle.builder.specs.Calls.{CanPart, ArePartsOf, IsOfBoth}
-use Rattle.builder.specs.View.{View, letter_at, StandsAt, IsEdge, top_of, Keeps}
+use Rattle.builder.specs.View.{View, letter_at, StandsAt, IsEdge, Keeps}
 use Rattle.builder.specs.declared.limit.Limit.{Limit}
 use Rattle.builder.specs.declared.limit.Limit.TheVariants as limit
-use Rattle.builder.proofs.CallLaws.{Ran, ran_nothing, ran_then, answers_then, causes_of, ran_causes, ran_on, causes_then}
+use Rattle.builder.proofs.CallLaws.{Ran, ran_nothing, ran_then, answers_then, ran_causes, ran_on, causes_then}
 use Rattle.builder.proofs.EachLaws.{part_lies_below}
-use Rattle.builder.proofs.LevelLaws.{letters_at, has_letter, stays, still_edge, same_top, good_at, from_level}
-use Rattle.builder.proofs.StoreLaws.{keeps_itself, keeps_on}
-use Rattle.counterexample.specs.Steps.{PlainChoice, Offers, choice_work, Chooses, IsChoice, PlainTurn, GoesTo, step_work, Turns, IsTurn}
+use Rattle.builder.proofs.LevelLaws.{letters_at, has_letter, stays, still_edge, same_top}
+use Rattle.counterexample.specs.Steps.{PlainChoice, Offers, choice_work, Chooses, IsChoice, PlainTurn, GoesTo, step_work, IsTurn}
 use Rattle.counterexample.proofs.CoverLaws.{step_covers_left, step_covers_right, choice_covers_table, choice_covers_sum}
 
 -- ---- refusals
@@ -48,25 +47,6 @@ no_parts k v w level e o same are t h =
     subst (λ (x : View). Chooses k v x d level t (Err limit.Overflow)) (sym same) (record {
       causes = record { made = λ id among. inl among; cause = record { overflow = λ e. unfit; full = λ e. absurd (cc) } };
       offers = tt;
-    })
-
--- at Shannon and positive Davio the parts themselves
-letter_offers : (k : KindName) (v : View) (d : Decomp) (level : ℕ) (t : Table) (low high : PlainEdge) → (d ≡ N → ⊥) → StandsAt k v (level + 1) (part0 d t) low →
-    StandsAt k v (level + 1) (part1 d t) high → Offers k v d level t (record { tried = low; other = high })
-letter_offers k v S level t low high davio h g = record { tried_stands = h; other_stands = g }
-letter_offers k v P level t low high davio h g = record { tried_stands = h; other_stands = g }
-letter_offers k v N level t low high davio h g = absurd (davio refl)
-
-pub parts_offer : (k : KindName) (v w : View) (level : ℕ) (e low high : PlainEdge) → (letter_at v.letters level ≡ N → ⊥) → w ≡ v →
-    ArePartsOf k v level e (Ok (low, high)) → IsChoice k v w level e (Ok (record { tried = low; other = high }))
-parts_offer k v w level e low high davio same are t h =
-    let d = letter_at v.letters level in
-    let both = are t h in
-    let work = choice_work d level t in
-    let c : PlainChoice = record { tried = low; other = high } in
-    subst (λ (x : View). Chooses k v x d level t (Ok c)) (sym same) (record {
-      causes = ran_causes k v v work c (ran_nothing k v work);
-      offers = letter_offers k v d level t low high davio both.0 both.1;
     })
 
 -- at negative Davio the sum of the parts, which is made within the work of the choice

@@ -5,6 +5,8 @@
 //! Davio it builds the sums of both parts, which are the low halves.
 #![tactic(auto)]
 
+#[cfg(test)]
+mod tests;
 mod walk;
 
 pub use walk::first_difference;

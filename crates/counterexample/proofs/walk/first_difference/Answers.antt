@@ -1,4 +1,4 @@
-use Rattle.std.proofs.Common.{◌≡◌, ◌+◌, ◌<◌, Bool, List, length, arith, subst, sym}
+use Rattle.std.proofs.Common.{◌+◌, ◌<◌, Bool, List, length, arith, subst, sym}
 use Rattle.kinds.specs.Plain.{plain}
 use Rattle.builder.proofs.StoreLaws.{keeps_on}
 use Rattle.counterexample.specs.Steps.{plain_turn}

@@ -1,5 +1,5 @@
 use Rattle.std.proofs.Common.{sym, ◌∙◌, ap, subst}
-use Rattle.kinds.specs.Plain.{plain, answered}
+use Rattle.kinds.specs.Plain.{plain}
 use Rattle.builder.specs.View.{View, letter_at, IsEdge}
 use Rattle.builder.specs.declared.limit.Limit.TheVariants as limit
 use Rattle.counterexample.specs.Steps.{plain_choice, IsChoice}

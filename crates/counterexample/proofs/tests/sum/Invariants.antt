@@ -1,0 +1,9 @@
+use Rattle.kinds.specs.Plain.{plain}
+use Rattle.builder.specs.View.{IsEdge, Keeps}
+use Rattle.counterexample.proofs.tests.sum.Given as goal
+
+abbrev pub invariant-loop-product : goal.invariant-loop-product
+invariant-loop-product g l = record {
+  keeps : Keeps l.fn.builder l.builder;
+  good : IsEdge g.K.Kind.NAME l.builder (plain g.K.Kind.extra_of l.sum);
+}
