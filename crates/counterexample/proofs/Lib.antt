@@ -1,3 +1,4 @@
 pub mod CoverLaws
+mod Examples
 pub mod StepLaws
 pub mod WalkLaws

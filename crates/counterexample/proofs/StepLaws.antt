@@ -49,6 +49,10 @@ no_parts k v w level e o same are t h =
       offers = tt;
     })
 
+-- the letter that was read
+pub letter_read : (v w : View) (level : ℕ) (d : Decomp) → w ≡ v → d ≡ letter_at w.letters level → letter_at v.letters level ≡ d
+letter_read v w level d same is = ap (λ (x : View). letter_at x.letters level) (sym same) ∙ sym is
+
 -- at negative Davio the sum of the parts, which is made within the work of the choice
 record Summed (k : KindName) (v x : View) (level : ℕ) (t : Table) (low : PlainEdge) (r : Result PlainEdge Limit) : Type 0 where
   low_stands : StandsAt k v (level + 1) (part0 N t) low

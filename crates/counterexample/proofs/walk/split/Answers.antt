@@ -1,9 +1,10 @@
-use Rattle.std.proofs.Common.{sym, ◌∙◌, ap, subst}
+use Rattle.std.proofs.Common.{sym, subst}
 use Rattle.kinds.specs.Plain.{plain}
-use Rattle.builder.specs.View.{View, letter_at, IsEdge}
+use Rattle.word_base.specs.declared.decomp.Decomp.TheVariants.{N}
+use Rattle.builder.specs.View.{View, IsEdge}
 use Rattle.builder.specs.declared.limit.Limit.TheVariants as limit
 use Rattle.counterexample.specs.Steps.{plain_choice, IsChoice}
-use Rattle.counterexample.proofs.StepLaws.{err_is_answered, no_parts, parts_good, sum_refuses, sum_offers}
+use Rattle.counterexample.proofs.StepLaws.{err_is_answered, letter_read, no_parts, parts_good, sum_refuses, sum_offers}
 use Rattle.counterexample.proofs.walk.split.Goals as goal
 
 pub returns-in_err-low-clause-choice : goal.returns-in_err-low-clause-choice
@@ -41,7 +42,7 @@ returns-in_err-sum-in-N-clause-choice g c =
     let high = plain g.K.Kind.extra_of c.in_ok-low.high in
     let limit = c.in_err-sum-in-N.field-0.0 in
     let is = err_is_answered (plain_choice g.K.Kind.extra_of) c.from_residual-in_err-sum-in-N.result limit c.from_residual-in_err-sum-in-N.ensures.1 in
-    let negative = ap (λ (y : View). letter_at y.letters c.args.level) (sym c.in_ok-low.ensures.unchanged) ∙ sym c.in-N.ensures.letter in
+    let negative = letter_read v c.parts.new.self c.args.level N c.in_ok-low.ensures.unchanged c.in-N.ensures.letter in
     subst (IsChoice k v x c.args.level e) (sym is)
     (sum_refuses k v c.parts.new.self x c.args.level e low high limit negative c.requires.below c.in_ok-low.ensures.unchanged c.in_ok-low.ensures.parts
     c.in_err-sum-in-N.ensures.keeps c.in_err-sum-in-N.ensures.sum)
@@ -52,6 +53,6 @@ returns-in_ok-sum-in-N-clause-choice g c =
     let v = c.args.builder.now in
     let low = plain g.K.Kind.extra_of c.in_ok-low.low in
     let high = plain g.K.Kind.extra_of c.in_ok-low.high in
-    let negative = ap (λ (y : View). letter_at y.letters c.args.level) (sym c.in_ok-low.ensures.unchanged) ∙ sym c.in-N.ensures.letter in
+    let negative = letter_read v c.parts.new.self c.args.level N c.in_ok-low.ensures.unchanged c.in-N.ensures.letter in
     sum_offers k v c.parts.new.self c.add.new.self c.args.level (plain g.K.Kind.extra_of c.args.edge) low high (plain g.K.Kind.extra_of c.in_ok-sum-in-N.sum)
     negative c.requires.below c.in_ok-low.ensures.unchanged c.in_ok-low.ensures.parts c.in_ok-sum-in-N.ensures.keeps c.in_ok-sum-in-N.ensures.sum
