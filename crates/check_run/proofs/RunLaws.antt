@@ -8,7 +8,7 @@ use Rattle.circuits.specs.Circuit.{Circuit}
 use Rattle.bench_reader.specs.Reading.{reading}
 use Rattle.spec_lang.specs.Specification.{Check, Specification}
 use Rattle.first_form.specs.FirstForm.{first_form}
-use Rattle.word_base.specs.declared.kind_name.KindName.TheVariants.{Hdd}
+use Rattle.word_base.specs.declared.kind_name.KindName.{KindName}
 use Rattle.checks.specs.Answer.{answer}
 use Rattle.checks.specs.declared.verdict.Verdict.{Verdict}
 use Rattle.checks.specs.declared.verdict.Verdict.TheVariants.{Equal, Different, Overflow, Full}
@@ -34,9 +34,9 @@ refused_is_there : (files : Files) (name : List ℕ) (r : Refusal) → RefusesNe
 refused_is_there files name r (inl (is, longer)) lacks = longer_is_there files name longer lacks
 refused_is_there files name r (inr (text, fault, is, reads, says)) lacks = text_is_there files name text is lacks
 
-refused_spec_is_there : (files : Files) (name : List ℕ) (c : Circuit) (r : Refusal) → RefusesSpec files name c r → Lacks files name → ⊥
-refused_spec_is_there files name c r (inl (is, longer)) lacks = longer_is_there files name longer lacks
-refused_spec_is_there files name c r (inr (text, is, none, says)) lacks = text_is_there files name text is lacks
+refused_spec_is_there : (files : Files) (name : List ℕ) (k : KindName) (c : Circuit) (r : Refusal) → RefusesSpec files name k c r → Lacks files name → ⊥
+refused_spec_is_there files name k c r (inl (is, longer)) lacks = longer_is_there files name longer lacks
+refused_spec_is_there files name k c r (inr (text, is, none, says)) lacks = text_is_there files name text is lacks
 
 -- ---- want of memory
 refused_wants : (words : List (List ℕ)) (old new : ShelfSeen) (r : Refusal) → IsRefused words old new r → WantsMemory words old new
@@ -44,15 +44,15 @@ refused_wants words old new r (inl (none, never, is)) = inl (none, never, tt)
 refused_wants words old new r (inr (names, is, inl (once, refuses))) =
     inr (names, is, inl (once, refused_is_there old.files names.netlist r refuses))
 refused_wants words old new r (inr (names, is, inr (c, says, twice, refuses))) =
-    inr (names, is, inr (c, says, twice, refused_spec_is_there old.files names.spec c r refuses))
+    inr (names, is, inr (c, says, twice, refused_spec_is_there old.files names.spec names.kind c r refuses))
 
-taken_wants : (words : List (List ℕ)) (old new : ShelfSeen) (c : Circuit) (s : Specification) → IsTaken words old new c s → WantsMemory words old new
-taken_wants words old new c s taken =
+taken_wants : (words : List (List ℕ)) (old new : ShelfSeen) (k : KindName) (c : Circuit) (s : Specification) → IsTaken words old new k c s → WantsMemory words old new
+taken_wants words old new k c s taken =
     inr (taken.names, taken.named, inr (c, taken.netlist, taken.fetches, text_is_there old.files taken.names.spec taken.spec.0 taken.spec.1))
 
 line_wants : (words : List (List ℕ)) (old new : ShelfSeen) (text : List ℕ) (status : Status) → IsLine words old new text status → WantsMemory words old new
 line_wants words old new text status (inl (r, refused, line)) = refused_wants words old new r refused
-line_wants words old new text status (inr (c, s, verdict, taken, reported, line)) = taken_wants words old new c s taken
+line_wants words old new text status (inr (k, c, s, verdict, taken, reported, line)) = taken_wants words old new k c s taken
 
 same_names : (words : List (List ℕ)) (a b : Names) → names_of words ≡ Some a → names_of words ≡ Some b → a ≡ b
 same_names words a b is other = same_Some a b (sym is ∙ other)
@@ -78,84 +78,91 @@ not_longer : (files : Files) (name text : List ℕ) → Holds files name text �
 not_longer files name text holds within longer =
     let more = subst (λ (o : Option (Option (List ℕ))). IsLonger o MOST_BYTES) holds longer in omega (arith, more, within)
 
-accepted_netlist : (words : List (List ℕ)) (files : Files) (c d : Circuit) (s : Specification) (check : Check) (names : Names) → Accepts words files c s check →
+accepted_netlist : (words : List (List ℕ)) (files : Files) (k : KindName) (c d : Circuit) (s : Specification) (check : Check) (names : Names) → Accepts words files k c s check →
     names_of words ≡ Some names → SaysNetlist files names.netlist d → d ≡ c
-accepted_netlist words files c d s check names takes named (text, is, reads) =
+accepted_netlist words files k c d s check names takes named (text, is, reads) =
     let same = same_names words names takes.names named takes.named in
     same_circuit takes.netlist_text text c d takes.reads reads
     (only_text files takes.names.netlist takes.netlist_text text takes.netlist (subst (λ (n : Names). IsText files n.netlist text) same is))
 
-accepted_spec : (words : List (List ℕ)) (files : Files) (c : Circuit) (s : Specification) (check : Check) (names : Names) (text : List ℕ) → Accepts words files c s check →
-    names_of words ≡ Some names → IsText files names.spec text → first_form c Hdd text ≡ Some s
-accepted_spec words files c s check names text takes named is =
-    let same = same_names words names takes.names named takes.named in
-    ap (first_form c Hdd) (only_text files takes.names.spec takes.spec_text text takes.spec (subst (λ (n : Names). IsText files n.spec text) same is)) ∙ takes.says
+same_kind : (words : List (List ℕ)) (files : Files) (k : KindName) (c : Circuit) (s : Specification) (check : Check) (names : Names) → Accepts words files k c s check →
+    names_of words ≡ Some names → names.kind ≡ k
+same_kind words files k c s check names takes named = ap (λ (n : Names). n.kind) (same_names words names takes.names named takes.named) ∙ takes.kind
 
-netlist_not_refused : (words : List (List ℕ)) (files : Files) (c : Circuit) (s : Specification) (check : Check) (names : Names) (r : Refusal) → Accepts words files c s check →
+accepted_spec : (words : List (List ℕ)) (files : Files) (k : KindName) (c : Circuit) (s : Specification) (check : Check) (names : Names) (text : List ℕ) → Accepts words files k c s check →
+    names_of words ≡ Some names → IsText files names.spec text → first_form c k text ≡ Some s
+accepted_spec words files k c s check names text takes named is =
+    let same = same_names words names takes.names named takes.named in
+    ap (first_form c k) (only_text files takes.names.spec takes.spec_text text takes.spec (subst (λ (n : Names). IsText files n.spec text) same is)) ∙ takes.says
+
+netlist_not_refused : (words : List (List ℕ)) (files : Files) (k : KindName) (c : Circuit) (s : Specification) (check : Check) (names : Names) (r : Refusal) → Accepts words files k c s check →
     names_of words ≡ Some names → RefusesNetlist files names.netlist r → ⊥
-netlist_not_refused words files c s check names r takes named (inl (is, longer)) =
+netlist_not_refused words files k c s check names r takes named (inl (is, longer)) =
     let same = same_names words names takes.names named takes.named in
     not_longer files takes.names.netlist takes.netlist_text takes.netlist takes.netlist_within
     (subst (λ (n : Names). IsLonger (told files n.netlist) MOST_BYTES) same longer)
-netlist_not_refused words files c s check names r takes named (inr (text, fault, is, reads, says)) =
+netlist_not_refused words files k c s check names r takes named (inr (text, fault, is, reads, says)) =
     let same = same_names words names takes.names named takes.named in
     let one = only_text files takes.names.netlist takes.netlist_text text takes.netlist (subst (λ (n : Names). IsText files n.netlist text) same is) in
     let both : Ok c ≡ Err fault = sym takes.reads ∙ ap reading (sym one) ∙ reads in absurd (cc)
 
-spec_not_refused : (words : List (List ℕ)) (files : Files) (c : Circuit) (s : Specification) (check : Check) (names : Names) (r : Refusal) → Accepts words files c s check →
-    names_of words ≡ Some names → RefusesSpec files names.spec c r → ⊥
-spec_not_refused words files c s check names r takes named (inl (is, longer)) =
+spec_not_refused : (words : List (List ℕ)) (files : Files) (k : KindName) (c : Circuit) (s : Specification) (check : Check) (names : Names) (r : Refusal) →
+    Accepts words files k c s check → names_of words ≡ Some names → RefusesSpec files names.spec k c r → ⊥
+spec_not_refused words files k c s check names r takes named (inl (is, longer)) =
     let same = same_names words names takes.names named takes.named in
     not_longer files takes.names.spec takes.spec_text takes.spec takes.spec_within
     (subst (λ (n : Names). IsLonger (told files n.spec) MOST_BYTES) same longer)
-spec_not_refused words files c s check names r takes named (inr (text, is, none, says)) =
-    let both : Some s ≡ None = sym (accepted_spec words files c s check names text takes named is) ∙ none in absurd (cc)
+spec_not_refused words files k c s check names r takes named (inr (text, is, none, says)) =
+    let both : Some s ≡ None = sym (accepted_spec words files k c s check names text takes named is) ∙ none in absurd (cc)
 
-not_refused : (words : List (List ℕ)) (old new : ShelfSeen) (c : Circuit) (s : Specification) (check : Check) (r : Refusal) → Accepts words old.files c s check →
+not_refused : (words : List (List ℕ)) (old new : ShelfSeen) (k : KindName) (c : Circuit) (s : Specification) (check : Check) (r : Refusal) → Accepts words old.files k c s check →
     IsRefused words old new r → ⊥
-not_refused words old new c s check r takes (inl (none, never, is)) = let named = takes.named in absurd (cc)
-not_refused words old new c s check r takes (inr (names, named, inl (once, refuses))) =
-    netlist_not_refused words old.files c s check names r takes named refuses
-not_refused words old new c s check r takes (inr (names, named, inr (d, says, twice, refuses))) =
-    let same = accepted_netlist words old.files c d s check names takes named says in
-    spec_not_refused words old.files c s check names r takes named (subst (λ (x : Circuit). RefusesSpec old.files names.spec x r) same refuses)
+not_refused words old new k c s check r takes (inl (none, never, is)) = let named = takes.named in absurd (cc)
+not_refused words old new k c s check r takes (inr (names, named, inl (once, refuses))) =
+    netlist_not_refused words old.files k c s check names r takes named refuses
+not_refused words old new k c s check r takes (inr (names, named, inr (d, says, twice, refuses))) =
+    let same = accepted_netlist words old.files k c d s check names takes named says in
+    let of_kind = subst (λ (j : KindName). RefusesSpec old.files names.spec j d r) (same_kind words old.files k c s check names takes named) refuses in
+    spec_not_refused words old.files k c s check names r takes named (subst (λ (x : Circuit). RefusesSpec old.files names.spec k x r) same of_kind)
 
 -- the circuit and the specification that were loaded are those that are taken
-taken_specification : (words : List (List ℕ)) (old new : ShelfSeen) (c : Circuit) (s t : Specification) (check : Check) → Accepts words old.files c s check →
-    IsTaken words old new c t → t ≡ s
-taken_specification words old new c s t check takes taken =
-    let says = accepted_spec words old.files c s check taken.names taken.spec.0 takes taken.named taken.spec.1 in
+taken_specification : (words : List (List ℕ)) (old new : ShelfSeen) (k : KindName) (c : Circuit) (s t : Specification) (check : Check) → Accepts words old.files k c s check →
+    IsTaken words old new k c t → t ≡ s
+taken_specification words old new k c s t check takes taken =
+    let says = accepted_spec words old.files k c s check taken.names taken.spec.0 takes taken.named taken.spec.1 in
     same_Some t s (sym taken.spec.2 ∙ says)
 
 -- ---- the answer
-no_limit : (c : Circuit) (s : Specification) (check : Check) (verdict : Verdict) → MeetsNoLimit c s check → IsVerdictOf c s check verdict → verdict ≡ answer c s check
-no_limit c s check Equal free is = is
-no_limit c s check (Different left right at) free (_, _, is) = is
-no_limit c s check Overflow free is = absurd (let none = free.not_over in cc)
-no_limit c s check Full free is = absurd (let none = free.not_short in cc)
+no_limit : (k : KindName) (c : Circuit) (s : Specification) (check : Check) (verdict : Verdict) → MeetsNoLimit k c s check → IsVerdictOf k c s check verdict → verdict ≡ answer c s check
+no_limit k c s check Equal free is = is
+no_limit k c s check (Different left right at) free (_, _, is) = is
+no_limit k c s check Overflow free is = absurd (let none = free.not_over in cc)
+no_limit k c s check Full free is = absurd (let none = free.not_short in cc)
 
-reported_answer : (c : Circuit) (s : Specification) (check : Check) (verdict : Verdict) → slice_get s.checks 0 ≡ Some check → MeetsNoLimit c s check →
-    IsReported c s 0 verdict → verdict ≡ answer c s check
-reported_answer c s check verdict is free (other, there, of_other) =
+reported_answer : (k : KindName) (c : Circuit) (s : Specification) (check : Check) (verdict : Verdict) → slice_get s.checks 0 ≡ Some check → MeetsNoLimit k c s check →
+    IsReported k c s 0 verdict → verdict ≡ answer c s check
+reported_answer k c s check verdict is free (other, there, of_other) =
     let same = same_Some other check (sym there ∙ is) in
-    no_limit c s check verdict free (subst (λ (x : Check). IsVerdictOf c s x verdict) same of_other)
+    no_limit k c s check verdict free (subst (λ (x : Check). IsVerdictOf k c s x verdict) same of_other)
 
-verdict_line_of_answer : (words : List (List ℕ)) (old new : ShelfSeen) (c d : Circuit) (s t : Specification) (check : Check) (verdict : Verdict) (text : List ℕ) (status : Status) →
-    Accepts words old.files c s check → MeetsNoLimit c s check → d ≡ c → t ≡ s → IsReported d t 0 verdict → IsVerdictLine d t verdict text status →
+verdict_line_of_answer : (words : List (List ℕ)) (old new : ShelfSeen) (k : KindName) (c d : Circuit) (s t : Specification) (check : Check) (verdict : Verdict) (text : List ℕ)
+    (status : Status) → Accepts words old.files k c s check → MeetsNoLimit k c s check → d ≡ c → t ≡ s → IsReported k d t 0 verdict → IsVerdictLine d t verdict text status →
     IsVerdictLine c s (answer c s check) text status
-verdict_line_of_answer words old new c d s t check verdict text status takes free circuit spec reported line =
-    let here = subst (λ (x : Specification). IsReported c x 0 verdict) spec (subst (λ (x : Circuit). IsReported x t 0 verdict) circuit reported) in
-    let is = reported_answer c s check verdict takes.check_is free here in
+verdict_line_of_answer words old new k c d s t check verdict text status takes free circuit spec reported line =
+    let here = subst (λ (x : Specification). IsReported k c x 0 verdict) spec (subst (λ (x : Circuit). IsReported k x t 0 verdict) circuit reported) in
+    let is = reported_answer k c s check verdict takes.check_is free here in
     subst (λ (v : Verdict). IsVerdictLine c s v text status) is
     (subst (λ (x : Specification). IsVerdictLine c x verdict text status) spec (subst (λ (x : Circuit). IsVerdictLine x t verdict text status) circuit line))
 
-line_of_answer : (words : List (List ℕ)) (old new : ShelfSeen) (c : Circuit) (s : Specification) (check : Check) (text : List ℕ) (status : Status) →
-    Accepts words old.files c s check → MeetsNoLimit c s check → IsLine words old new text status → IsVerdictLine c s (answer c s check) text status
-line_of_answer words old new c s check text status takes free (inl (r, refused, line)) = absurd (not_refused words old new c s check r takes refused)
-line_of_answer words old new c s check text status takes free (inr (d, t, verdict, taken, reported, line)) =
-    let circuit = accepted_netlist words old.files c d s check taken.names takes taken.named taken.netlist in
-    let spec = taken_specification words old new c s t check takes (subst (λ (x : Circuit). IsTaken words old new x t) circuit taken) in
-    verdict_line_of_answer words old new c d s t check verdict text status takes free circuit spec reported line
+line_of_answer : (words : List (List ℕ)) (old new : ShelfSeen) (k : KindName) (c : Circuit) (s : Specification) (check : Check) (text : List ℕ) (status : Status) →
+    Accepts words old.files k c s check → MeetsNoLimit k c s check → IsLine words old new text status → IsVerdictLine c s (answer c s check) text status
+line_of_answer words old new k c s check text status takes free (inl (r, refused, line)) = absurd (not_refused words old new k c s check r takes refused)
+line_of_answer words old new k c s check text status takes free (inr (j, d, t, verdict, taken, reported, line)) =
+    let kind = sym taken.kind ∙ same_kind words old.files k c s check taken.names takes taken.named in
+    let circuit = accepted_netlist words old.files k c d s check taken.names takes taken.named taken.netlist in
+    let of_kind = subst (λ (i : KindName). IsTaken words old new i d t) kind taken in
+    let spec = taken_specification words old new k c s t check takes (subst (λ (x : Circuit). IsTaken words old new k x t) circuit of_kind) in
+    verdict_line_of_answer words old new k c d s t check verdict text status takes free circuit spec (subst (λ (i : KindName). IsReported i d t 0 verdict) kind reported) line
 
 -- ---- the status of a line
 status_is_written : (verdict : Verdict) → is_written (status_of (verdict ∷ [])) ≡ true
@@ -166,7 +173,7 @@ status_is_written Full = refl
 
 line_is_written : (words : List (List ℕ)) (old new : ShelfSeen) (text : List ℕ) (status : Status) → IsLine words old new text status → is_written status ≡ true
 line_is_written words old new text status (inl (r, refused, line)) = ap is_written line.status_is
-line_is_written words old new text status (inr (c, s, verdict, taken, reported, line)) = ap is_written line.status_is ∙ status_is_written verdict
+line_is_written words old new text status (inr (k, c, s, verdict, taken, reported, line)) = ap is_written line.status_is ∙ status_is_written verdict
 
 fault_not_written : (status : Status) → is_written status ≡ true → (fault : Status) → is_written fault ≡ false → status ≡ fault → ⊥
 fault_not_written status is fault not same = let both : true ≡ false = sym is ∙ ap is_written same ∙ not in cc
@@ -198,8 +205,8 @@ line_written words old new text status files read line appended faults =
         | inl same ↦ absurd (fault_not_written status is ReadFault refl same)
         | inr same ↦ absurd (fault_not_written status is NoMemory refl same)
       ];
-      answered = λ c s check takes free. answers_where_written c s check old new status is
-          (record { text = text; line = line_of_answer words old.shelf new.shelf c s check text status takes free line; appended = appended });
+      answered = λ k c s check takes free. answers_where_written c s check old new status is
+          (record { text = text; line = line_of_answer words old.shelf new.shelf k c s check text status takes free line; appended = appended });
       absent = λ names named lacks. absurd
           (not_absent words old.shelf new.shelf names (line_wants words old.shelf new.shelf text status line) named lacks);
     }
@@ -220,7 +227,7 @@ line_cut words old new text status files read line appended fault =
       no_read_fault = λ _. read;
       no_write_fault = λ is. absurd (is refl);
       nothing = λ either. elim either as (λ _. new.sink.written ≡ old.sink.written) [ inl same ↦ absurd (cc) | inr same ↦ absurd (cc) ];
-      answered = λ c s check takes free. rose_of_raised old.sink.faults new.sink.faults fault;
+      answered = λ k c s check takes free. rose_of_raised old.sink.faults new.sink.faults fault;
       absent = λ names named lacks. absurd
           (not_absent words old.shelf new.shelf names (line_wants words old.shelf new.shelf text status line) named lacks);
     }
@@ -237,7 +244,7 @@ wanted_memory words old new files read wants sink =
       no_read_fault = λ _. read;
       no_write_fault = λ _. ap (λ s. s.faults) sink;
       nothing = λ _. ap (λ s. s.written) sink;
-      answered = λ c s check takes free. tt;
+      answered = λ k c s check takes free. tt;
       absent = λ names named lacks. absurd (not_absent words old.shelf new.shelf names wants named lacks);
     }
 
@@ -249,13 +256,13 @@ unread_rose old new name text holds (inl is) = rose_of_raised old.faults new.fau
 unread_rose old new name text holds (inr (lacks, same)) = absurd (held_is_there old.files name text holds lacks)
 
 -- where both files are there, the fault was counted
-fault_counted : (words : List (List ℕ)) (old new : ShelfSeen) (c : Circuit) (s : Specification) (check : Check) → Accepts words old.files c s check →
+fault_counted : (words : List (List ℕ)) (old new : ShelfSeen) (k : KindName) (c : Circuit) (s : Specification) (check : Check) → Accepts words old.files k c s check →
     FailsToRead words old new → Rose old.faults new.faults
-fault_counted words old new c s check takes (inl (none, never, nothing)) = absurd nothing
-fault_counted words old new c s check takes (inr (names, named, inl (once, unread))) =
+fault_counted words old new k c s check takes (inl (none, never, nothing)) = absurd nothing
+fault_counted words old new k c s check takes (inr (names, named, inl (once, unread))) =
     let same = same_names words names takes.names named takes.named in
     unread_rose old new takes.names.netlist takes.netlist_text takes.netlist (subst (λ (n : Names). IsUnread old new n.netlist) same unread)
-fault_counted words old new c s check takes (inr (names, named, inr (d, says, twice, unread))) =
+fault_counted words old new k c s check takes (inr (names, named, inr (d, says, twice, unread))) =
     let same = same_names words names takes.names named takes.named in
     unread_rose old new takes.names.spec takes.spec_text takes.spec (subst (λ (n : Names). IsUnread old new n.spec) same unread)
 
@@ -271,7 +278,7 @@ failed_to_read words old new files fails sink =
       no_read_fault = λ is. absurd (is refl);
       no_write_fault = λ _. ap (λ s. s.faults) sink;
       nothing = λ _. ap (λ s. s.written) sink;
-      answered = λ c s check takes free. fault_counted words old.shelf new.shelf c s check takes fails;
+      answered = λ k c s check takes free. fault_counted words old.shelf new.shelf k c s check takes fails;
       absent = λ names named lacks. refl;
     }
 
@@ -280,9 +287,9 @@ pub refusal_is_line : (words : List (List ℕ)) (old new : ShelfSeen) (r : Refus
     IsRefusalLine r text status → IsLine words old new text status
 refusal_is_line words old new r text status refused line = inl (r, refused, line)
 
-pub verdict_is_line : (words : List (List ℕ)) (old new : ShelfSeen) (c : Circuit) (s : Specification) (verdict : Verdict) (text : List ℕ) (status : Status) →
-    IsTaken words old new c s → IsReported c s 0 verdict → IsVerdictLine c s verdict text status → IsLine words old new text status
-verdict_is_line words old new c s verdict text status taken reported line = inr (c, s, verdict, taken, reported, line)
+pub verdict_is_line : (words : List (List ℕ)) (old new : ShelfSeen) (k : KindName) (c : Circuit) (s : Specification) (verdict : Verdict) (text : List ℕ) (status : Status) →
+    IsTaken words old new k c s → IsReported k c s 0 verdict → IsVerdictLine c s verdict text status → IsLine words old new text status
+verdict_is_line words old new k c s verdict text status taken reported line = inr (k, c, s, verdict, taken, reported, line)
 
 -- ---- a line that was put out, or was not made
 text_put : (words : List (List ℕ)) (old new : Outside) (text : List ℕ) (status answered : Status) → new.shelf.files ≡ old.shelf.files → new.shelf.faults ≡ old.shelf.faults →
@@ -303,13 +310,13 @@ refusal_run text_of status_of words old new r (Err e) answered files read refuse
     subst (λ (s : Status). IsRun words old new s) (sym none)
     (wanted_memory words old new files read (refused_wants words old.shelf new.shelf r refused) nothing)
 
-pub check_run : {X : Type 0} (text_of : X → List ℕ) (status_of : X → Status) (words : List (List ℕ)) (old new : Outside) (c : Circuit) (s : Specification) (made : Result X AllocError) (answered : Status) →
-    new.shelf.files ≡ old.shelf.files → new.shelf.faults ≡ old.shelf.faults → IsTaken words old.shelf new.shelf c s →
-    IfOk made (λ o. (verdict : Verdict) × IsReported c s 0 verdict × IsVerdictLine c s verdict (text_of o) (status_of o)) →
+pub check_run : {X : Type 0} (text_of : X → List ℕ) (status_of : X → Status) (words : List (List ℕ)) (old new : Outside) (k : KindName) (c : Circuit) (s : Specification) (made : Result X AllocError) (answered : Status) →
+    new.shelf.files ≡ old.shelf.files → new.shelf.faults ≡ old.shelf.faults → IsTaken words old.shelf new.shelf k c s →
+    IfOk made (λ o. (verdict : Verdict) × IsReported k c s 0 verdict × IsVerdictLine c s verdict (text_of o) (status_of o)) →
     IfOk made (λ o. PutsText old.sink new.sink (text_of o) (status_of o) answered) →
     OnErr made (answered ≡ NoMemory) → OnErr made (new.sink ≡ old.sink) → IsRun words old new answered
-check_run text_of status_of words old new c s (Ok o) answered files read taken (verdict, reported, line) puts none nothing =
-    text_put words old new (text_of o) (status_of o) answered files read (inr (c, s, verdict, taken, reported, line)) puts
-check_run text_of status_of words old new c s (Err e) answered files read taken line puts none nothing =
+check_run text_of status_of words old new k c s (Ok o) answered files read taken (verdict, reported, line) puts none nothing =
+    text_put words old new (text_of o) (status_of o) answered files read (inr (k, c, s, verdict, taken, reported, line)) puts
+check_run text_of status_of words old new k c s (Err e) answered files read taken line puts none nothing =
     subst (λ (x : Status). IsRun words old new x) (sym none)
-    (wanted_memory words old new files read (taken_wants words old.shelf new.shelf c s taken) nothing)
+    (wanted_memory words old new files read (taken_wants words old.shelf new.shelf k c s taken) nothing)

@@ -10,6 +10,7 @@ use Rattle.bench_reader.specs.Reading.{reading}
 use Rattle.bench_reader.specs.declared.fault.BenchFault.{BenchFault}
 use Rattle.spec_lang.specs.Specification.{Check, Specification, half_adder, half_adder_check}
 use Rattle.first_form.specs.FirstForm.{first_form}
+use Rattle.word_base.specs.declared.kind_name.KindName.{KindName}
 use Rattle.word_base.specs.declared.kind_name.KindName.TheVariants.{Hdd}
 use Rattle.outside.specs.Shelf.{told, Holds, IsLonger, IsWhole}
 use Rattle.report.specs.declared.refusal.Refusal.{Refusal}
@@ -28,8 +29,8 @@ abbrev pub SaysNetlist : Files → List ℕ → Circuit → Type 0
 SaysNetlist files name c = (text : List ℕ) × IsText files name text × (reading text ≡ Ok c)
 
 -- the file says this specification over the circuit
-abbrev pub SaysSpec : Files → List ℕ → Circuit → Specification → Type 0
-SaysSpec files name c s = (text : List ℕ) × IsText files name text × (first_form c Hdd text ≡ Some s)
+abbrev pub SaysSpec : Files → List ℕ → KindName → Circuit → Specification → Type 0
+SaysSpec files name k c s = (text : List ℕ) × IsText files name text × (first_form c k text ≡ Some s)
 
 -- the netlist's file is refused: it is too long, or has a fault
 abbrev pub RefusesNetlist : Files → List ℕ → Refusal → Type 0
@@ -38,16 +39,17 @@ RefusesNetlist files name refusal =
     ⊎ ((text : List ℕ) × (f : BenchFault) × IsText files name text × (reading text ≡ Err f) × (refusal ≡ Netlist f))
 
 -- the specification's file is refused over the circuit: it is too long, or says no specification
-abbrev pub RefusesSpec : Files → List ℕ → Circuit → Refusal → Type 0
-RefusesSpec files name c refusal =
+abbrev pub RefusesSpec : Files → List ℕ → KindName → Circuit → Refusal → Type 0
+RefusesSpec files name k c refusal =
     (refusal ≡ SpecTooLong) × IsLonger (told files name) MOST_BYTES
-    ⊎ ((text : List ℕ) × IsText files name text × (first_form c Hdd text ≡ None) × (refusal ≡ Spec))
+    ⊎ ((text : List ℕ) × IsText files name text × (first_form c k text ≡ None) × (refusal ≡ Spec))
 
--- The shelf tells both files that the words name, and both are taken: the netlist reads as the circuit, and the
--- specification's text says the specification, with this check
-pub record Accepts (words : List (List ℕ)) (files : Files) (c : Circuit) (s : Specification) (check : Check) : Type 0 where
+-- The words name a kind and two files, the shelf tells both files, and both are taken: the netlist reads as the circuit, and
+-- the specification's text says the specification, with this check
+pub record Accepts (words : List (List ℕ)) (files : Files) (k : KindName) (c : Circuit) (s : Specification) (check : Check) : Type 0 where
   pub names : Names
   pub named : names_of words ≡ Some names
+  pub kind : names.kind ≡ k
   pub netlist_text : List ℕ
   pub netlist : Holds files names.netlist netlist_text
   pub netlist_within : length netlist_text ≤ MOST_BYTES
@@ -55,7 +57,7 @@ pub record Accepts (words : List (List ℕ)) (files : Files) (c : Circuit) (s : 
   pub spec_text : List ℕ
   pub spec : Holds files names.spec spec_text
   pub spec_within : length spec_text ≤ MOST_BYTES
-  pub says : first_form c Hdd spec_text ≡ Some s
+  pub says : first_form c k spec_text ≡ Some s
   pub check_is : slice_get s.checks 0 ≡ Some check
 
 -- the half adder's two files
@@ -76,10 +78,11 @@ half-netlist = (half_text, record { whole = refl; within = lit≤ tt }, refl)
 looped-refused : RefusesNetlist (two_files (codes "INPUT(a)\nx = AND(x, a)\n") None) (codes "n") (Netlist (fault 2 Cycle))
 looped-refused = inr (codes "INPUT(a)\nx = AND(x, a)\n", fault 2 Cycle, record { whole = refl; within = lit≤ tt }, refl, refl)
 
-half-accepted : Accepts check_n_s (two_files half_text (Some half_spec)) half half_adder half_adder_check
+half-accepted : Accepts check_n_s (two_files half_text (Some half_spec)) Hdd half half_adder half_adder_check
 half-accepted = record {
   names = n_and_s;
   named = refl;
+  kind = refl;
   netlist_text = half_text;
   netlist = refl;
   netlist_within = lit≤ tt;

@@ -3,6 +3,7 @@ use Rattle.std.specs.Prelude.{◌≡◌, ◌⊎◌, ℕ, List, Result, Ok, Err}
 use Rattle.std.specs.Io.KnownBytes.{Appends}
 use Rattle.circuits.specs.Circuit.{Circuit}
 use Rattle.spec_lang.specs.Specification.{Specification}
+use Rattle.word_base.specs.declared.kind_name.KindName.{KindName}
 use Rattle.bench_reader.specs.declared.fault.BenchError.{BenchError}
 use Rattle.bench_reader.specs.declared.fault.BenchError.TheVariants as bench
 use Rattle.outside.specs.Count.{raised}
@@ -42,9 +43,9 @@ ComesTo Says Refuses old new name (Err (stop.Refused r)) = Refuses r × (new.fau
 ComesTo Says Refuses old new name (Err stop.ReadFault) = IsUnread old new name
 ComesTo Says Refuses old new name (Err stop.Memory) = (Lacks old.files name → ⊥) × (new.faults ≡ old.faults)
 
--- the words and both files
-abbrev pub Loads : List (List ℕ) → ShelfSeen → ShelfSeen → Result (Circuit × Specification) Stop → Type 0
-Loads words old new (Ok both) = IsTaken words old new both.0 both.1 × (new.faults ≡ old.faults)
+-- the kind that the words name, and both files
+abbrev pub Loads : List (List ℕ) → ShelfSeen → ShelfSeen → Result (KindName × Circuit × Specification) Stop → Type 0
+Loads words old new (Ok all) = IsTaken words old new all.0 all.1 all.2 × (new.faults ≡ old.faults)
 Loads words old new (Err (stop.Refused r)) = IsRefused words old new r × (new.faults ≡ old.faults)
 Loads words old new (Err stop.ReadFault) = FailsToRead words old new
 Loads words old new (Err stop.Memory) = WantsMemory words old new × (new.faults ≡ old.faults)

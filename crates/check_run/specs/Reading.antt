@@ -7,6 +7,8 @@ use Rattle.circuits.specs.Examples.{half}
 use Rattle.bench_reader.specs.Faults.{fault}
 use Rattle.bench_reader.specs.declared.fault.BenchCause.TheVariants.{Cycle}
 use Rattle.spec_lang.specs.Specification.{Specification, half_adder}
+use Rattle.word_base.specs.declared.kind_name.KindName.{KindName}
+use Rattle.word_base.specs.declared.kind_name.KindName.TheVariants.{Hdd}
 use Rattle.outside.specs.Count.{raised}
 use Rattle.outside.specs.Shelf.{Lacks}
 use Rattle.report.specs.declared.refusal.Refusal.{Refusal}
@@ -17,19 +19,19 @@ use Rattle.check_run.specs.Words.{Names, check_n_s, n_and_s, names_of}
 
 -- Where a run stops, and what holds there: at the words, which name no files; at the netlist's file, of this name; or at
 -- the specification's, over the circuit that the netlist says
-abbrev pub StopsAt : List (List ℕ) → ShelfSeen → ShelfSeen → Type 0 → (List ℕ → Type 0) → (Circuit → List ℕ → Type 0) → Type 0
+abbrev pub StopsAt : List (List ℕ) → ShelfSeen → ShelfSeen → Type 0 → (List ℕ → Type 0) → (KindName → Circuit → List ℕ → Type 0) → Type 0
 StopsAt words old new AtWords AtNetlist AtSpec =
     (names_of words ≡ None) × (new.fetches ≡ old.fetches) × AtWords
     ⊎ ((names : Names) × (names_of words ≡ Some names)
     × ((new.fetches ≡ raised old.fetches) × AtNetlist names.netlist
-    ⊎ ((c : Circuit) × SaysNetlist old.files names.netlist c × (new.fetches ≡ raised (raised old.fetches)) × AtSpec c names.spec)))
+    ⊎ ((c : Circuit) × SaysNetlist old.files names.netlist c × (new.fetches ≡ raised (raised old.fetches)) × AtSpec names.kind c names.spec)))
 
 -- it stops since the words or a file are refused
 abbrev pub IsRefused : List (List ℕ) → ShelfSeen → ShelfSeen → Refusal → Type 0
 IsRefused words old new refusal =
     StopsAt words old new (refusal ≡ Words)
     (λ name. RefusesNetlist old.files name refusal)
-    (λ c name. RefusesSpec old.files name c refusal)
+    (λ k c name. RefusesSpec old.files name k c refusal)
 
 -- the file was not read: a fault was counted, or the shelf tells its files and has none of this name
 abbrev pub IsUnread : ShelfSeen → ShelfSeen → List ℕ → Type 0
@@ -37,19 +39,20 @@ IsUnread old new name = (new.faults ≡ raised old.faults) ⊎ (Lacks old.files 
 
 -- it stops since a file could not be read
 abbrev pub FailsToRead : List (List ℕ) → ShelfSeen → ShelfSeen → Type 0
-FailsToRead words old new = StopsAt words old new ⊥ (IsUnread old new) (λ c name. IsUnread old new name)
+FailsToRead words old new = StopsAt words old new ⊥ (IsUnread old new) (λ k c name. IsUnread old new name)
 
 -- it stops, or could not go on, for want of memory. A file that is told to be absent is not asked for in vain
 abbrev pub WantsMemory : List (List ℕ) → ShelfSeen → ShelfSeen → Type 0
 WantsMemory words old new =
-    StopsAt words old new (Unit {0}) (λ name. Lacks old.files name → ⊥) (λ c name. Lacks old.files name → ⊥)
+    StopsAt words old new (Unit {0}) (λ name. Lacks old.files name → ⊥) (λ k c name. Lacks old.files name → ⊥)
 
--- it does not stop: both files are taken
-pub record IsTaken (words : List (List ℕ)) (old new : ShelfSeen) (c : Circuit) (s : Specification) : Type 0 where
+-- it does not stop: both files are taken, for this kind
+pub record IsTaken (words : List (List ℕ)) (old new : ShelfSeen) (k : KindName) (c : Circuit) (s : Specification) : Type 0 where
   pub names : Names
   pub named : names_of words ≡ Some names
+  pub kind : names.kind ≡ k
   pub netlist : SaysNetlist old.files names.netlist c
-  pub spec : SaysSpec old.files names.spec c s
+  pub spec : SaysSpec old.files names.spec k c s
   pub fetches : new.fetches ≡ raised (raised old.fetches)
 
 -- one word, at any shelf
@@ -80,10 +83,11 @@ no_spec : FailsToRead check_n_s (asked (two_files half_text None) 7) (asked (two
 no_spec =
     inr (n_and_s, refl, inr (half, (half_text, record { whole = refl; within = lit≤ tt }, refl), refl, inr (refl, refl)))
 
-half-is_taken : IsTaken check_n_s (asked (two_files half_text (Some half_spec)) 0) (asked (two_files half_text (Some half_spec)) 2) half half_adder
+half-is_taken : IsTaken check_n_s (asked (two_files half_text (Some half_spec)) 0) (asked (two_files half_text (Some half_spec)) 2) Hdd half half_adder
 half-is_taken = record {
   names = n_and_s;
   named = refl;
+  kind = refl;
   netlist = (half_text, record { whole = refl; within = lit≤ tt }, refl);
   spec = (half_spec, record { whole = refl; within = lit≤ tt }, refl);
   fetches = refl;

@@ -6,6 +6,7 @@ use Rattle.spec_lang.specs.Specification.{Check, Specification}
 use Rattle.checks.specs.Answer.{answer}
 use Rattle.checks.specs.declared.verdict.Verdict.{Verdict}
 use Rattle.outside.specs.Count.{raised, Rose}
+use Rattle.word_base.specs.declared.kind_name.KindName.{KindName}
 use Rattle.outside.specs.Shelf.{Lacks}
 use Rattle.outside.specs.Sink.{AppendsPrefix}
 use Rattle.report.specs.Lines.{verdict_line}
@@ -35,8 +36,8 @@ pub record IsVerdictLine (c : Circuit) (s : Specification) (verdict : Verdict) (
 abbrev pub IsLine : List (List ℕ) → ShelfSeen → ShelfSeen → List ℕ → Status → Type 0
 IsLine words old new text status =
     ((refusal : Refusal) × IsRefused words old new refusal × IsRefusalLine refusal text status)
-    ⊎ ((c : Circuit) × (s : Specification) × (verdict : Verdict)
-    × IsTaken words old new c s × IsReported c s 0 verdict × IsVerdictLine c s verdict text status)
+    ⊎ ((k : KindName) × (c : Circuit) × (s : Specification) × (verdict : Verdict)
+    × IsTaken words old new k c s × IsReported k c s 0 verdict × IsVerdictLine c s verdict text status)
 
 -- the line was written whole
 pub record WritesLine (words : List (List ℕ)) (old new : Outside) (status : Status) : Type 0 where
@@ -86,7 +87,7 @@ pub record IsRun (words : List (List ℕ)) (old new : Outside) (status : Status)
   pub no_write_fault : (status ≡ WriteFault → ⊥) → new.sink.faults ≡ old.sink.faults
   pub nothing : (status ≡ ReadFault) ⊎ (status ≡ NoMemory) → new.sink.written ≡ old.sink.written
   -- where both files are taken and no limit has its cause, the answer is written
-  pub answered : (c : Circuit) (s : Specification) (check : Check) →
-      Accepts words old.shelf.files c s check → MeetsNoLimit c s check → GivesAnswer c s check old new status
+  pub answered : (k : KindName) (c : Circuit) (s : Specification) (check : Check) →
+      Accepts words old.shelf.files k c s check → MeetsNoLimit k c s check → GivesAnswer c s check old new status
   -- a netlist's file that is told to be absent is a fault of reading
   pub absent : (names : Names) → names_of words ≡ Some names → Lacks old.shelf.files names.netlist → status ≡ ReadFault

@@ -6,9 +6,10 @@ use Rattle.circuits.specs.Examples.{half}
 use Rattle.spec_lang.specs.Formula.{number, word, sum}
 use Rattle.spec_lang.specs.Specification.{Check, Specification, half_adder, half_adder_check}
 use Rattle.first_form.specs.FirstForm.{with_usual}
+use Rattle.word_base.specs.declared.kind_name.KindName.{KindName}
 use Rattle.word_base.specs.declared.kind_name.KindName.TheVariants.{Hdd}
 use Rattle.word_base.specs.Range.{InRange}
-use Rattle.diagram.specs.View.{room}
+use Rattle.check_run.specs.declared.decide.TheConstants.{CELLS}
 use Rattle.checks.specs.Answer.{answer}
 use Rattle.checks.specs.Limits.{over, short}
 use Rattle.checks.specs.declared.method.Method.TheVariants.{Forward}
@@ -17,34 +18,34 @@ use Rattle.checks.specs.declared.verdict.Verdict.TheVariants.{Equal, Different, 
 
 -- An overflow only where the check is over the range of weights, a full store only where it is short of cells, and else
 -- the answer, whose values are weights
-abbrev pub IsVerdictOf : Circuit → Specification → Check → Verdict → Type 0
-IsVerdictOf c s check Overflow = over Hdd Forward c s check ≡ true
-IsVerdictOf c s check Full = short Hdd Forward 1 room c s check ≡ true
-IsVerdictOf c s check Equal = Equal ≡ answer c s check
-IsVerdictOf c s check (Different left right at) =
+abbrev pub IsVerdictOf : KindName → Circuit → Specification → Check → Verdict → Type 0
+IsVerdictOf k c s check Overflow = over k Forward c s check ≡ true
+IsVerdictOf k c s check Full = short k Forward 1 CELLS c s check ≡ true
+IsVerdictOf k c s check Equal = Equal ≡ answer c s check
+IsVerdictOf k c s check (Different left right at) =
     InRange left × InRange right × (Different left right at ≡ answer c s check)
 
 -- there is a check of this number, counted from 0, and the verdict is of it
-abbrev pub IsReported : Circuit → Specification → ℕ → Verdict → Type 0
-IsReported c s place verdict =
-    (check : Check) × (slice_get s.checks place ≡ Some check) × IsVerdictOf c s check verdict
+abbrev pub IsReported : KindName → Circuit → Specification → ℕ → Verdict → Type 0
+IsReported k c s place verdict =
+    (check : Check) × (slice_get s.checks place ≡ Some check) × IsVerdictOf k c s check verdict
 
 -- no limit has its cause in the check
-pub record MeetsNoLimit (c : Circuit) (s : Specification) (check : Check) : Type 0 where
-  pub not_over : over Hdd Forward c s check ≡ false
-  pub not_short : short Hdd Forward 1 room c s check ≡ false
+pub record MeetsNoLimit (k : KindName) (c : Circuit) (s : Specification) (check : Check) : Type 0 where
+  pub not_over : over k Forward c s check ≡ false
+  pub not_short : short k Forward 1 CELLS c s check ≡ false
 
-half-meets_no_limit : MeetsNoLimit half half_adder half_adder_check
+half-meets_no_limit : MeetsNoLimit Hdd half half_adder half_adder_check
 half-meets_no_limit = record { not_over = refl; not_short = refl }
 
-half-is_equal : IsReported half half_adder 0 Equal
+half-is_equal : IsReported Hdd half half_adder 0 Equal
 half-is_equal = (half_adder_check, refl, refl)
 
 -- the carry counted once
 abbrev carry_once : Check
 carry_once = record { left = sum (word 2) (word 3); right = sum (word 0) (word 1) }
 
-once-differs : IsVerdictOf half (with_usual half Hdd half_adder.words carry_once) carry_once (Different (pos 1) (pos 2) (true ∷ true ∷ []))
+once-differs : IsVerdictOf Hdd half (with_usual half Hdd half_adder.words carry_once) carry_once (Different (pos 1) (pos 2) (true ∷ true ∷ []))
 once-differs = (lit≤ tt, lit≤ tt, refl)
 
 -- a sum that is no weight, over two inputs
@@ -54,5 +55,5 @@ pair = record { inputs = codes "a" ∷ codes "b" ∷ []; gates = []; outputs = [
 abbrev too_great : Check
 too_great = record { left = sum (number (pos 170141183460469231731687303715884105727)) (number (pos 1)); right = number (pos 1) }
 
-great-is_over : IsVerdictOf pair (with_usual pair Hdd [] too_great) too_great Overflow
+great-is_over : IsVerdictOf Hdd pair (with_usual pair Hdd [] too_great) too_great Overflow
 great-is_over = refl

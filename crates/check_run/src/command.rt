@@ -16,6 +16,7 @@ use outside::{Gate, PutFailed, Shelf, Sink};
 use report::{Refusal, line, refusal_line};
 use spec_lang::Spec;
 use std::alloc::{AllocError, Global};
+use word_base::KindName;
 
 /// A line to write, and the status that goes with it.
 #[derive(Drop)]
@@ -35,14 +36,19 @@ fn refused(alloc: Global, refusal: &Refusal) -> Result<Outcome, AllocError>
 }
 
 /// The line of the check.
-fn checked(alloc: Global, netlist: &Netlist, spec: &Spec) -> Result<Outcome, AllocError>
+fn checked(
+    alloc: Global,
+    kind: KindName,
+    netlist: &Netlist,
+    spec: &Spec,
+) -> Result<Outcome, AllocError>
     requires over { IsOver netlist.now spec.now }
-    requires usual { IsUsual spec.now }
+    requires usual { IsUsual kind spec.now }
     ensures { IfOk result (λ outcome. (verdict : Verdict)
-        × IsReported netlist.now spec.now 0 verdict
+        × IsReported kind netlist.now spec.now 0 verdict
         × IsVerdictLine netlist.now spec.now verdict (string_bytes outcome.text) outcome.status) }
 {
-    let verdict = decide(alloc, netlist, spec, 0)?;
+    let verdict = decide(alloc, kind, netlist, spec, 0)?;
     let text = line(alloc, 1, netlist, spec.order(), &verdict)?;
     let status = status_of(&verdict);
     Ok(Outcome { text, status })
@@ -82,7 +88,7 @@ pub fn run<F: Shelf, O: Sink, G: Gate>(
         result }
 {
     match load(alloc, words, shelf) {
-        Ok((netlist, spec)) => put(out, checked(alloc, &netlist, &spec)),
+        Ok((kind, netlist, spec)) => put(out, checked(alloc, kind, &netlist, &spec)),
         Err(Stop::Refused(refusal)) => put(out, refused(alloc, &refusal)),
         Err(Stop::ReadFault) => Status::ReadFault,
         Err(Stop::Memory) => Status::NoMemory,

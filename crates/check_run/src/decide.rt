@@ -1,19 +1,29 @@
-ghost use Rattle.std.specs.Prelude.{◌≡◌, ◌<◌, ◌≤◌, length, IfOk};
-ghost use Rattle.check_run.specs.Deciding.{verdict_at, verdict_of_limit};
+ghost use Rattle.std.specs.Prelude.{◌≡◌, ◌<◌, ◌≤◌, length, true, IfOk};
+ghost use Rattle.builder.specs.View.{View};
+ghost use Rattle.check_run.specs.Deciding.{verdict_at, verdict_of_limit, HasBuilt};
 ghost use Rattle.check_run.specs.Verdicts.{IsReported};
 ghost use Rattle.cone_builder.specs.Sides.{AreSides};
-ghost use Rattle.diagram.specs.View.{AreAllP};
+ghost use Rattle.kinds.specs.Plain.{plain};
 ghost use Rattle.spec_lang.specs.WellFormed.{IsOver};
+ghost use Rattle.tables.specs.Laws.{are_allowed};
 
+use builder::Builder;
 use checks::Verdict;
 use cone_builder::{BuildError, build_one};
 use counterexample::first_difference;
-use diagram::Builder;
-use kind_laws::Edge;
+use evbdd::Evbdd;
+use hdd::Hdd;
+use k_star_bmd::KStarBmd;
+use kinds::{Edge, Kind};
 use netlist::Netlist;
+use record_store::SoloStore;
 use spec_lang::{EvalError, Spec};
+use star_bmd::StarBmd;
 use std::alloc::{AllocError, Global};
-use word_base::{Assign, Levels, LevelsFault, Weight};
+use word_base::{Assign, KindName, Levels, LevelsFault, Weight};
+
+/// How many nodes a check's store holds at most.
+pub const CELLS: u32 = 262_144;
 
 /// The levels of the inputs.
 fn levels_of(alloc: Global, spec: &Spec) -> Result<Levels, AllocError>
@@ -47,7 +57,7 @@ fn verdict_at(
     }
 }
 
-/// The verdict where the sides were not built.
+/// The verdict where the sides were not built, or the walk over them was refused.
 fn verdict_of_limit(error: BuildError) -> Result<Verdict, AllocError>
     ensures { result ≡ verdict_of_limit error }
 {
@@ -59,32 +69,39 @@ fn verdict_of_limit(error: BuildError) -> Result<Verdict, AllocError>
 }
 
 /// Whether both sides are the same, and else the first assignment where they differ.
-fn compare(
+fn compare<K: Kind>(
     alloc: Global,
-    builder: &Builder,
+    builder: &mut Builder<K, SoloStore>,
     netlist: &Netlist,
     spec: &Spec,
     check: u32,
-    left: &Edge,
-    right: &Edge,
+    sides: (Edge<K>, Edge<K>),
 ) -> Result<Verdict, AllocError>
     requires over { IsOver netlist.now spec.now }
     requires check { check < length spec.now.checks }
-    requires levels { length builder.now.letters ≡ length spec.now.order }
-    requires sides { AreSides netlist.now spec.now check builder.now left.now right.now }
-    ensures { IfOk result (λ verdict. IsReported netlist.now spec.now check verdict) }
+    requires levels { length builder.old.letters ≡ length spec.now.order }
+    requires built { HasBuilt K.NAME netlist.now spec.now check builder.old }
+    requires sides { AreSides K.NAME netlist.now spec.now check builder.old (plain K.extra_of sides.0) (plain K.extra_of sides.1) }
+    ensures { IfOk result (λ verdict. IsReported K.NAME netlist.now spec.now check verdict) }
 {
+    let (left, right) = sides;
     if builder.same(left, right) {
         return Ok(Verdict::Equal);
     }
     let mut at = Assign::new(alloc, builder.levels())?;
-    first_difference(builder, 0, left, right, &mut at);
-    let values = spec.evaluate(check, netlist, &at);
-    verdict_at(at, values)
+    let walked = first_difference(builder, 0, left, right, &mut at);
+    let _known = builder.store().len();
+    match walked {
+        Ok(()) => {
+            let values = spec.evaluate(check, netlist, &at);
+            verdict_at(at, values)
+        }
+        Err(limit) => verdict_of_limit(BuildError::from(limit)),
+    }
 }
 
-/// What is answered to a check, of which every level is of positive Davio.
-pub(crate) fn decide(
+/// What is answered to a check, by diagrams of a kind that allows the letter of each level.
+fn decide_by<K: Kind>(
     alloc: Global,
     netlist: &Netlist,
     spec: &Spec,
@@ -92,14 +109,38 @@ pub(crate) fn decide(
 ) -> Result<Verdict, AllocError>
     requires over { IsOver netlist.now spec.now }
     requires check { check < length spec.now.checks }
-    requires all_p { AreAllP spec.now.letters }
-    ensures { IfOk result (λ verdict. IsReported netlist.now spec.now check verdict) }
+    requires allowed { are_allowed K.NAME spec.now.letters ≡ true }
+    ensures { IfOk result (λ verdict. IsReported K.NAME netlist.now spec.now check verdict) }
 {
     let _inputs = netlist.inputs();
     let levels = levels_of(alloc, spec)?;
-    let mut builder = Builder::create(alloc, levels)?;
-    match build_one(alloc, &mut builder, netlist, spec, check) {
-        Ok((left, right)) => compare(alloc, &builder, netlist, spec, check, &left, &right),
+    let store = SoloStore::create(alloc, CELLS)?;
+    let mut builder = Builder::<K, SoloStore>::create(store, levels);
+    let built = build_one(alloc, &mut builder, netlist, spec, check);
+    let _known = builder.store().len();
+    match built {
+        Ok(sides) => compare(alloc, &mut builder, netlist, spec, check, sides),
         Err(error) => verdict_of_limit(error),
+    }
+}
+
+/// What is answered to a check, by diagrams of the kind of this name.
+pub(crate) fn decide(
+    alloc: Global,
+    kind: KindName,
+    netlist: &Netlist,
+    spec: &Spec,
+    check: u32,
+) -> Result<Verdict, AllocError>
+    requires over { IsOver netlist.now spec.now }
+    requires check { check < length spec.now.checks }
+    requires allowed { are_allowed kind spec.now.letters ≡ true }
+    ensures { IfOk result (λ verdict. IsReported kind netlist.now spec.now check verdict) }
+{
+    match kind {
+        KindName::Evbdd => decide_by::<Evbdd>(alloc, netlist, spec, check),
+        KindName::StarBmd => decide_by::<StarBmd>(alloc, netlist, spec, check),
+        KindName::Hdd => decide_by::<Hdd>(alloc, netlist, spec, check),
+        KindName::KStarBmd => decide_by::<KStarBmd>(alloc, netlist, spec, check),
     }
 }

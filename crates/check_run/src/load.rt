@@ -50,46 +50,47 @@ fn load_netlist<F: Shelf>(alloc: Global, shelf: &mut F, name: &str) -> Result<Ne
     Ok(bench_reader::read(alloc, &bytes)?)
 }
 
-/// The specification that the file of a name says over a netlist.
+/// The specification that the file of a name says over a netlist, with the usual letters of a kind.
 fn load_spec<F: Shelf>(
     alloc: Global,
     shelf: &mut F,
     name: &str,
+    kind: KindName,
     netlist: &Netlist,
 ) -> Result<Spec, Stop>
     ensures files { F.files shelf.new ≡ F.files shelf.old }
     ensures once { F.fetches shelf.new ≡ raised (F.fetches shelf.old) }
-    ensures spec { ComesTo (SaysSpec (F.files shelf.old) name.now netlist.now)
-        (RefusesSpec (F.files shelf.old) name.now netlist.now)
+    ensures spec { ComesTo (SaysSpec (F.files shelf.old) name.now kind netlist.now)
+        (RefusesSpec (F.files shelf.old) name.now kind netlist.now)
         (shelf_seen F.files F.fetches F.faults shelf.old)
         (shelf_seen F.files F.fetches F.faults shelf.new) name.now result }
     ensures over { IfOk result (λ spec. IsOver netlist.now spec) }
-    ensures usual { IfOk result (λ spec. IsUsual spec) }
+    ensures usual { IfOk result (λ spec. IsUsual kind spec) }
 {
     let bytes = fetch(alloc, shelf, name, Refusal::SpecTooLong)?;
-    match first_form::read::read(alloc, &bytes, netlist, KindName::Hdd)? {
+    match first_form::read::read(alloc, &bytes, netlist, kind)? {
         Some(spec) => Ok(spec),
         None => Err(Stop::Refused(Refusal::Spec)),
     }
 }
 
-/// The netlist and the specification that the words name.
+/// The kind, the netlist and the specification that the words name.
 pub(crate) fn load<F: Shelf>(
     alloc: Global,
     words: &[&str],
     shelf: &mut F,
-) -> Result<(Netlist, Spec), Stop>
+) -> Result<(KindName, Netlist, Spec), Stop>
     ensures files { F.files shelf.new ≡ F.files shelf.old }
     ensures loads { Loads (texts words.now)
         (shelf_seen F.files F.fetches F.faults shelf.old)
         (shelf_seen F.files F.fetches F.faults shelf.new) result }
-    ensures over { IfOk result (λ both. IsOver both.0 both.1) }
-    ensures usual { IfOk result (λ both. IsUsual both.1) }
+    ensures over { IfOk result (λ all. IsOver all.1 all.2) }
+    ensures usual { IfOk result (λ all. IsUsual all.0 all.2) }
 {
     let Some(names) = names_in(words) else {
         return Err(Stop::Refused(Refusal::Words));
     };
-    let netlist = load_netlist(alloc, shelf, names.0)?;
-    let spec = load_spec(alloc, shelf, names.1, &netlist)?;
-    Ok((netlist, spec))
+    let netlist = load_netlist(alloc, shelf, names.1)?;
+    let spec = load_spec(alloc, shelf, names.2, names.0, &netlist)?;
+    Ok((names.0, netlist, spec))
 }

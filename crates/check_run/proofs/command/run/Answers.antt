@@ -12,7 +12,7 @@ returns-in-Ok g c =
     check_run (λ (o : Outcome). string_bytes o.text) (λ o. o.status) (texts c.args.words.now)
     (seen (shelf_seen g.F.Shelf.files g.F.Shelf.fetches g.F.Shelf.faults c.args.shelf.now) (sink_seen g.O.Sink.written g.O.Sink.faults c.args.out.now))
     (seen (shelf_seen g.F.Shelf.files g.F.Shelf.fetches g.F.Shelf.faults c.load.new.shelf) (sink_seen g.O.Sink.written g.O.Sink.faults c.put.new.out))
-    c.in-Ok.netlist c.in-Ok.spec c.checked.result c.put.result c.in-Ok.ensures.files c.in-Ok.ensures.loads.1 c.in-Ok.ensures.loads.0 c.checked.ensures c.put.ensures.put
+    c.in-Ok.kind c.in-Ok.netlist c.in-Ok.spec c.checked.result c.put.result c.in-Ok.ensures.files c.in-Ok.ensures.loads.1 c.in-Ok.ensures.loads.0 c.checked.ensures c.put.ensures.put
     c.put.ensures.not_made c.put.ensures.nothing
 
 pub returns-in-Err-Refused : goal.returns-in-Err-Refused

@@ -7,7 +7,7 @@ returns-in_err-spec-clause-loads g c =
     spec_stops (texts c.args.words.now) (shelf_seen g.F.Shelf.files g.F.Shelf.fetches g.F.Shelf.faults c.args.shelf.now)
     (shelf_seen g.F.Shelf.files g.F.Shelf.fetches g.F.Shelf.faults c.load_netlist.new.shelf)
     (shelf_seen g.F.Shelf.files g.F.Shelf.fetches g.F.Shelf.faults c.load_spec.new.shelf)
-    (record { netlist = c.in-Some.names.0.now; spec = c.in-Some.names.1.now }) c.in_ok-netlist.netlist c.in_err-spec.field-0.0 c.from_residual-in_err-spec.result
+    (record { kind = c.in-Some.names.0; netlist = c.in-Some.names.1.now; spec = c.in-Some.names.2.now }) c.in_ok-netlist.netlist c.in_err-spec.field-0.0 c.from_residual-in_err-spec.result
     c.in-Some.ensures.some
     (record { files = c.in_ok-netlist.ensures.files; fetches = c.in_ok-netlist.ensures.once; faults = c.in_ok-netlist.ensures.netlist.1 })
     c.in_ok-netlist.ensures.netlist.0 c.in_err-spec.ensures.once c.in_err-spec.ensures.spec c.from_residual-in_err-spec.ensures.1

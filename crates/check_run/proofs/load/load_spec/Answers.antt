@@ -4,4 +4,4 @@ use Rattle.check_run.proofs.load.load_spec.Goals as goal
 
 pub returns-in-Some-clause-usual : goal.returns-in-Some-clause-usual
 returns-in-Some-clause-usual g c =
-    first_form_usual c.args.netlist.now c.deref.result.now c.in-Some.spec (sym c.in_ok-spec.ensures.form ∙ c.in-Some.is)
+    first_form_usual c.args.kind c.args.netlist.now c.deref.result.now c.in-Some.spec (sym c.in_ok-spec.ensures.form ∙ c.in-Some.is)

@@ -1,4 +1,4 @@
-use Rattle.std.proofs.Common.{◌∙◌, ◌++◌, ◌∷◌, [], sym, ap, map, length, subst, ◌<◌, ℕ, arith}
+use Rattle.std.proofs.Common.{◌∙◌, ◌++◌, ◌∷◌, [], sym, ap, map, length, get_or, subst, ◌<◌, ℕ, arith}
 use Rattle.std.specs.Prelude.{slice_index_or}
 use Rattle.std.proofs.lemmas.List.{take_all, length-map, map-append}
 use Rattle.kinds.specs.Plain.{plain}
@@ -12,10 +12,11 @@ loop-net-preserved g c = λ d.
     let i = c.loop-net.net-index in
     let edge = c.index-edges-net.result in
     let edges = c.args.edges.now in
-    let within = subst (λ (n : ℕ). _ < n) (sym (length-map edges (plain of))) (c.requires i 0 c.loop-net-test.true) in
+    let net = get_or c.args.nets.now i 0 in
+    let within = subst (λ (n : ℕ). net < n) (sym (length-map edges (plain of))) (c.requires i 0 c.loop-net-test.true) in
     ap (plain_edges of) c.in_ok-push.ensures.items ∙ map-append (plain of) c.loop-net.into.items (edge ∷ [])
     ∙ gathered_more (plain_edges of edges) c.args.nets.now i d (plain of edge) (plain_edges of c.loop-net.into.items) c.loop-net-test.true
-    within (c.loop-net.invariant d) (ap (plain of) c.index-edges-net.is ∙ sym (plain_at of edges _ edge))
+    within (c.loop-net.invariant d) (ap (plain of) c.index-edges-net.is ∙ sym (plain_at of edges net edge))
 
 pub returns : goal.returns
 returns g c = λ d.
