@@ -1,0 +1,2 @@
+pub mod Additive
+pub mod Skips
