@@ -6,8 +6,10 @@ ghost use Rattle.builder.specs.View.{IsEdge, Keeps};
 use super::*;
 use evbdd::Evbdd;
 use hdd::Hdd;
+use k_star_bmd::KStarBmd;
 use kinds::{Edge, Kind};
 use record_store::SoloStore;
+use star_bmd::StarBmd;
 use std::alloc::Global;
 use std::process::Abort;
 use std::test::Fail;
@@ -124,8 +126,10 @@ fn check_terms<K: Kind>(rt: &impl Abort, builder: &mut Builder<K, SoloStore>) ->
 fn terms_with_one_meaning_have_one_edge(rt: HostRuntime) -> Result<(), Fail> {
     for letter in [Decomp::S, Decomp::P, Decomp::N] {
         check_terms(&rt, &mut two_levels::<Hdd>(rt.alloc(), letter, 100)?)?;
+        check_terms(&rt, &mut two_levels::<KStarBmd>(rt.alloc(), letter, 100)?)?;
     }
-    check_terms(&rt, &mut two_levels::<Evbdd>(rt.alloc(), Decomp::S, 100)?)
+    check_terms(&rt, &mut two_levels::<Evbdd>(rt.alloc(), Decomp::S, 100)?)?;
+    check_terms(&rt, &mut two_levels::<StarBmd>(rt.alloc(), Decomp::P, 100)?)
 }
 
 fn check_causes<K: Kind>(rt: &impl Abort, builder: &mut Builder<K, SoloStore>) -> Result<(), Fail> {
@@ -146,5 +150,7 @@ fn check_causes<K: Kind>(rt: &impl Abort, builder: &mut Builder<K, SoloStore>) -
 #[test]
 fn a_store_of_one_node_is_full(rt: HostRuntime) -> Result<(), Fail> {
     check_causes(&rt, &mut two_levels::<Hdd>(rt.alloc(), Decomp::N, 1)?)?;
-    check_causes(&rt, &mut two_levels::<Evbdd>(rt.alloc(), Decomp::S, 1)?)
+    check_causes(&rt, &mut two_levels::<Evbdd>(rt.alloc(), Decomp::S, 1)?)?;
+    check_causes(&rt, &mut two_levels::<StarBmd>(rt.alloc(), Decomp::P, 1)?)?;
+    check_causes(&rt, &mut two_levels::<KStarBmd>(rt.alloc(), Decomp::S, 1)?)
 }

@@ -33,7 +33,7 @@ pub divides_rest : (a b c g : ℤ) → g ≡ signed_gcd a b c → unsigned_abs g
 divides_rest a b c g is =
     divides-multiple g c (int_div c g) (subst (λ (x : ℤ). c ≡ x *ℤ int_div c x) (sym is) (sym (signed_gcd-times_third a b c)))
 
-same_number : (x y : ℤ) → y -ℤ x ≡ pos 0 → x ≡ y
+pub same_number : (x y : ℤ) → y -ℤ x ≡ pos 0 → x ≡ y
 same_number x y e = omega (arith, ints, e)
 
 -- two constants whose rest is 0 are a skip

@@ -1,2 +1,3 @@
+mod ContentLaws
 pub mod JoinLaws
 pub mod SkipLaws

@@ -1,2 +1,3 @@
 pub mod Additive
+pub mod Laws
 pub mod Skips
