@@ -79,9 +79,9 @@ one_more_gate k c start v w gates place net old edges new low is so_far keeps lo
 pub is_input : (c : Circuit) (net : ℕ) (gate : Gate) (input : ℕ) → gate_of c net ≡ Some gate → Contains gate.inputs input → IsInput c net input
 is_input c net gate input of has = rw of has
 
-pub inputs_within : (c : Circuit) (net : ℕ) (gate : Gate) (edges : List PlainEdge) → IsSound c → gate_of c net ≡ Some gate → length edges ≡ net_count c →
-    (input : ℕ) → Contains gate.inputs input → input < length edges
-inputs_within c net gate edges sound of many input has = rw many (sound.inputs net input (is_input c net gate input of has))
+pub inputs_within : (c : Circuit) (net : ℕ) (gate : Gate) (count : ℕ) → IsSound c → gate_of c net ≡ Some gate → count ≡ net_count c →
+    (input : ℕ) → Contains gate.inputs input → input < count
+inputs_within c net gate count sound of many input has = rw many (sound.inputs net input (is_input c net gate input of has))
 
 pub reads_some : (c : Circuit) (net : ℕ) (gate : Gate) → IsSound c → gate_of c net ≡ Some gate → 0 < length gate.inputs
 reads_some c net gate sound of = some_inputs gate.word (length gate.inputs) (gate-sized c sound net gate of).arity

@@ -149,9 +149,9 @@ all_inputs c s over good =
     All-from_get_or (λ net. net < input_count c) s.order 0
     (λ i low. rw (← over.inputs) ((good.order.each_input (get_or s.order i 0)).0 (Contains-get_or s.order i 0 low)))
 
-pub written_back : (n : ℕ) (old new : List PlainEdge) → n ≡ length old → length new ≡ length old → take n (new ++ drop (length new) old) ≡ new
+pub written_back : {X : Type 0} (n : ℕ) (old new : List X) → n ≡ length old → length new ≡ length old → take n (new ++ drop (length new) old) ≡ new
 written_back n old new whole same =
-    ap (λ (rest : List PlainEdge). take n (new ++ rest)) (ap (λ (j : ℕ). drop j old) same ∙ drop-length old)
+    ap (λ rest. take n (new ++ rest)) (ap (λ (j : ℕ). drop j old) same ∙ drop-length old)
     ∙ ap (take n) (append-nil new) ∙ take_all n new (omega (arith, whole, same))
 
 pub nets_are_built : (k : KindName) (c : Circuit) (s : Specification) (number : ℕ) (named gates : List ℕ) (marks : List Bool) (v w : View) (edges : List PlainEdge) → IsOver c s → IsWellFormed s → IsSound c → IsAccepted c →

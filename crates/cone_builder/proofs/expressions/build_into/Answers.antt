@@ -1,6 +1,7 @@
 use Rattle.std.proofs.Common.{sym, subst, List}
 use Rattle.std.proofs.lemmas.Result.{on_ok_weaker}
 use Rattle.word_base.specs.declared.decomp.Decomp.{Decomp}
+use Rattle.builder.proofs.StoreLaws.{keeps_on}
 use Rattle.cone_builder.specs.Built.{is_marked}
 use Rattle.checks.specs.Forward.{net_work}
 use Rattle.cone_builder.specs.Causes.{Includes, limit_met}
@@ -25,3 +26,7 @@ returns-clause-causes g c = λ table ps variables gates after marked each_of.
     c.build_inputs.ensures.keeps c.build_gates.ensures.keeps (c.build_inputs.ensures.causes table ps variables marked)
     (c.build_gates.ensures.causes table (is_marked c.args.order.now c.args.marks.now) ps gates (c.in_ok-build_inputs.ensures.built table variables) after
     (λ net has. subst (λ (ds : List Decomp). Includes ps (net_work c.args.netlist.now ds table net)) (sym c.build_inputs.ensures.keeps.letters) (each_of net has)))
+
+pub returns-clause-keeps : goal.returns-clause-keeps
+returns-clause-keeps g c =
+    keeps_on c.args.builder.now c.build_inputs.new.builder c.build_gates.new.builder c.build_inputs.ensures.keeps c.build_gates.ensures.keeps

@@ -244,7 +244,7 @@ returns-in_err-left-clause-causes g c =
     (left_named sides) parts.left before c.in_err-left.ensures.keeps so_far
     (subst (λ (es : List PlainEdge). IsFormula sides.left k w x es (Err c.in_err-left.field-0.0)) left_words c.in_err-left.ensures.formula) in
     causes_there k n s c.args.check sides u x (limit_met c.from_residual-in_err-left.result) is
-    (limit_refused k u x ps c.from_residual-in_err-left.result (Err {A = PlainEdge} c.in_err-left.field-0.0) c.in_err-left.field-0.0 refl c.from_residual-in_err-left.ensures.1 left)
+    (limit_refused {X = PlainEdge} k u x ps c.from_residual-in_err-left.result (Err c.in_err-left.field-0.0) c.in_err-left.field-0.0 refl c.from_residual-in_err-left.ensures.1 left)
 
 pub returns-in_err-right-clause-causes : goal.returns-in_err-right-clause-causes
 returns-in_err-right-clause-causes g c =
@@ -292,7 +292,7 @@ returns-in_err-right-clause-causes g c =
     (right_named sides) parts.right (keeps_on u w x before c.in_ok-left.ensures.keeps) c.in_err-right.ensures.keeps left
     (subst (λ (es : List PlainEdge). IsFormula sides.right k x y es (Err c.in_err-right.field-0.0)) right_words c.in_err-right.ensures.formula) in
     causes_there k n s c.args.check sides u y (limit_met c.from_residual-in_err-right.result) is
-    (limit_refused k u y ps c.from_residual-in_err-right.result (Err {A = PlainEdge} c.in_err-right.field-0.0) c.in_err-right.field-0.0 refl
+    (limit_refused {X = PlainEdge} k u y ps c.from_residual-in_err-right.result (Err c.in_err-right.field-0.0) c.in_err-right.field-0.0 refl
     c.from_residual-in_err-right.ensures.1 right)
 
 pub returns-clause-causes : goal.returns-clause-causes
@@ -341,3 +341,27 @@ returns-clause-causes g c =
     (right_named sides) parts.right (keeps_on u w x before c.in_ok-left.ensures.keeps) c.in_ok-right.ensures.keeps left
     (subst (λ (es : List PlainEdge). IsFormula sides.right k x y es (Ok (plain of c.in_ok-right.right))) right_words c.in_ok-right.ensures.formula) in
     causes_there k n s c.args.check sides u y (Ok tt) is (causes_answered k u y ps (Ok (plain of c.in_ok-right.right)) tt right)
+
+-- ---- what stays
+pub returns-in_err-build_words-clause-keeps : goal.returns-in_err-build_words-clause-keeps
+returns-in_err-build_words-clause-keeps g c =
+    keeps_on c.args.builder.now c.build_nets.new.builder c.build_words.new.builder c.build_nets.ensures.keeps c.build_words.ensures.keeps
+
+pub returns-in_err-left-clause-keeps : goal.returns-in_err-left-clause-keeps
+returns-in_err-left-clause-keeps g c =
+    keeps_on c.args.builder.now c.build_words.new.builder c.expression.new.builder
+    (keeps_on c.args.builder.now c.build_nets.new.builder c.build_words.new.builder c.build_nets.ensures.keeps c.build_words.ensures.keeps) c.in_err-left.ensures.keeps
+
+pub returns-in_err-right-clause-keeps : goal.returns-in_err-right-clause-keeps
+returns-in_err-right-clause-keeps g c =
+    keeps_on c.args.builder.now c.expression.new.builder c.expression-2.new.builder
+    (keeps_on c.args.builder.now c.build_words.new.builder c.expression.new.builder
+    (keeps_on c.args.builder.now c.build_nets.new.builder c.build_words.new.builder c.build_nets.ensures.keeps c.build_words.ensures.keeps) c.in_ok-left.ensures.keeps)
+    c.in_err-right.ensures.keeps
+
+pub returns-clause-keeps : goal.returns-clause-keeps
+returns-clause-keeps g c =
+    keeps_on c.args.builder.now c.expression.new.builder c.expression-2.new.builder
+    (keeps_on c.args.builder.now c.build_words.new.builder c.expression.new.builder
+    (keeps_on c.args.builder.now c.build_nets.new.builder c.build_words.new.builder c.build_nets.ensures.keeps c.build_words.ensures.keeps) c.in_ok-left.ensures.keeps)
+    c.in_ok-right.ensures.keeps

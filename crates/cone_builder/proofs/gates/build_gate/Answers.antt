@@ -18,7 +18,7 @@ pub gather-requires-after_bounds : goal.gather-requires-after_bounds
 gather-requires-after_bounds g c = λ lives bounds j d low.
     let n = c.args.netlist.now in
     let gate : Gate = record { name = name_of n c.args.net; word = c.gate-word.result.0; inputs = c.gate-word.result.1.now } in
-    inputs_within n c.args.net gate c.args.edges.now c.requires.sound c.gate-word.ensures c.requires.many _ (Contains-get_or gate.inputs j d low)
+    inputs_within n c.args.net gate (length c.args.edges.now) c.requires.sound c.gate-word.ensures c.requires.many _ (Contains-get_or gate.inputs j d low)
 
 pub gate-requires-clause-good : goal.gate-requires-clause-good
 gate-requires-clause-good g c κs within_bounds =
@@ -29,7 +29,7 @@ gate-requires-clause-good g c κs within_bounds =
     let net = c.args.net in
     let edges = plain_edges of c.args.edges.now in
     let gate : Gate = record { name = name_of n net; word = c.gate-word.result.0; inputs = c.gate-word.result.1.now } in
-    let within = inputs_within n net gate edges c.requires.sound c.gate-word.ensures (length-map c.args.edges.now (plain of) ∙ c.requires.many) in
+    let within = inputs_within n net gate (length edges) c.requires.sound c.gate-word.ensures (length-map c.args.edges.now (plain of) ∙ c.requires.many) in
     let is : plain_edges of c.as_slice.result.now ≡ map (λ m. slice_index_or edges m no_edge) gate.inputs =
     ap (plain_edges of) c.as_slice.ensures.value ∙ c.in_ok-gather.ensures no_edge in
     subst (AreEdges k v) (sym is) (gathered_good k v edges no_edge gate.inputs c.requires.good within)
@@ -43,7 +43,7 @@ gate-requires-clause-some g c κs within_bounds =
     let net = c.args.net in
     let edges = plain_edges of c.args.edges.now in
     let gate : Gate = record { name = name_of n net; word = c.gate-word.result.0; inputs = c.gate-word.result.1.now } in
-    let within = inputs_within n net gate edges c.requires.sound c.gate-word.ensures (length-map c.args.edges.now (plain of) ∙ c.requires.many) in
+    let within = inputs_within n net gate (length edges) c.requires.sound c.gate-word.ensures (length-map c.args.edges.now (plain of) ∙ c.requires.many) in
     let is : plain_edges of c.as_slice.result.now ≡ map (λ m. slice_index_or edges m no_edge) gate.inputs =
     ap (plain_edges of) c.as_slice.ensures.value ∙ c.in_ok-gather.ensures no_edge in
     let some = reads_some n net gate c.requires.sound c.gate-word.ensures in
@@ -60,7 +60,7 @@ returns-clause-good g c =
     let net = c.args.net in
     let edges = plain_edges of c.args.edges.now in
     let gate : Gate = record { name = name_of n net; word = c.gate-word.result.0; inputs = c.gate-word.result.1.now } in
-    let within = inputs_within n net gate edges c.requires.sound c.gate-word.ensures (length-map c.args.edges.now (plain of) ∙ c.requires.many) in
+    let within = inputs_within n net gate (length edges) c.requires.sound c.gate-word.ensures (length-map c.args.edges.now (plain of) ∙ c.requires.many) in
     let is : plain_edges of c.as_slice.result.now ≡ map (λ m. slice_index_or edges m no_edge) gate.inputs =
     ap (plain_edges of) c.as_slice.ensures.value ∙ c.in_ok-gather.ensures no_edge in
     let w = c.gate.new.builder in
@@ -80,7 +80,7 @@ returns-clause-built g c = λ table built are h reads.
     let net = c.args.net in
     let edges = plain_edges of c.args.edges.now in
     let gate : Gate = record { name = name_of n net; word = c.gate-word.result.0; inputs = c.gate-word.result.1.now } in
-    let within = inputs_within n net gate edges c.requires.sound c.gate-word.ensures (length-map c.args.edges.now (plain of) ∙ c.requires.many) in
+    let within = inputs_within n net gate (length edges) c.requires.sound c.gate-word.ensures (length-map c.args.edges.now (plain of) ∙ c.requires.many) in
     let is : plain_edges of c.as_slice.result.now ≡ map (λ m. slice_index_or edges m no_edge) gate.inputs =
     ap (plain_edges of) c.as_slice.ensures.value ∙ c.in_ok-gather.ensures no_edge in
     let w = c.gate.new.builder in
@@ -98,13 +98,13 @@ returns-in_err-edges-clause-causes g c = λ table built ps h reads includes.
     let net = c.args.net in
     let edges = plain_edges of c.args.edges.now in
     let gate : Gate = record { name = name_of n net; word = c.gate-word.result.0; inputs = c.gate-word.result.1.now } in
-    let within = inputs_within n net gate edges c.requires.sound c.gate-word.ensures (length-map c.args.edges.now (plain of) ∙ c.requires.many) in
+    let within = inputs_within n net gate (length edges) c.requires.sound c.gate-word.ensures (length-map c.args.edges.now (plain of) ∙ c.requires.many) in
     let is : plain_edges of c.as_slice.result.now ≡ map (λ m. slice_index_or edges m no_edge) gate.inputs =
     ap (plain_edges of) c.as_slice.ensures.value ∙ c.in_ok-gather.ensures no_edge in
     let w = c.gate.new.builder in
     let e = c.in_err-edges.field-0.0 in
     let made = subst (λ (es : List PlainEdge). IsOfAll (λ l. gate_table gate.word) (gate_work_at gate.word v.letters) k v w es (Err e)) is c.in_err-edges.ensures.gate in
-    limit_refused k v w ps c.from_residual-in_err-edges.result (Err {A = PlainEdge} e) e refl c.from_residual-in_err-edges.ensures.1
+    limit_refused {X = PlainEdge} k v w ps c.from_residual-in_err-edges.result (Err e) e refl c.from_residual-in_err-edges.ensures.1
     (gate_causes k n v w net gate edges no_edge (Err e) c.gate-word.ensures c.in_err-edges.ensures.keeps within made table built ps h reads includes)
 
 pub returns-clause-causes : goal.returns-clause-causes
@@ -116,7 +116,7 @@ returns-clause-causes g c = λ table built ps h reads includes.
     let net = c.args.net in
     let edges = plain_edges of c.args.edges.now in
     let gate : Gate = record { name = name_of n net; word = c.gate-word.result.0; inputs = c.gate-word.result.1.now } in
-    let within = inputs_within n net gate edges c.requires.sound c.gate-word.ensures (length-map c.args.edges.now (plain of) ∙ c.requires.many) in
+    let within = inputs_within n net gate (length edges) c.requires.sound c.gate-word.ensures (length-map c.args.edges.now (plain of) ∙ c.requires.many) in
     let is : plain_edges of c.as_slice.result.now ≡ map (λ m. slice_index_or edges m no_edge) gate.inputs =
     ap (plain_edges of) c.as_slice.ensures.value ∙ c.in_ok-gather.ensures no_edge in
     let w = c.gate.new.builder in

@@ -1,6 +1,7 @@
 use Rattle.std.proofs.Common.{◌≡◌, refl, sym, ◌∙◌, subst, take, get_or, List, ℕ, arith}
 use Rattle.std.proofs.lemmas.List.{take_all, length-map}
 use Rattle.std.specs.Prelude.{Ok}
+use Rattle.builder.proofs.StoreLaws.{keeps_on}
 use Rattle.kinds.specs.Plain.{plain}
 use Rattle.word_apply.specs.Applied.{plain_edges}
 use Rattle.cone_builder.specs.Built.{AreBuilt, or_listed}
@@ -48,3 +49,6 @@ returns-in_err-build_gate-clause-causes g c = λ table built ps are h after each
 
 pub returns-clause-causes : goal.returns-clause-causes
 returns-clause-causes g c = c.loop-net.invariant.caused
+
+pub returns-in_err-build_gate-clause-keeps : goal.returns-in_err-build_gate-clause-keeps
+returns-in_err-build_gate-clause-keeps g c = keeps_on c.args.builder.now c.loop-net.builder c.build_gate.new.builder c.loop-net.invariant.keeps c.build_gate.ensures.keeps

@@ -119,7 +119,7 @@ returns-in_err-words-clause-causes g c = λ of_net built_nets ps h named include
     let w = c.word-2.new.builder in
     let e = c.in_err-words.field-0.0 in
     let made = subst (λ (es : List PlainEdge). IsOfAll (λ l. word_table) word_work k v w es (Err e)) is c.in_err-words.ensures.word in
-    limit_refused k v w ps c.from_residual-in_err-words.result (Err {A = PlainEdge} e) e refl c.from_residual-in_err-words.ensures.1
+    limit_refused {X = PlainEdge} k v w ps c.from_residual-in_err-words.result (Err e) e refl c.from_residual-in_err-words.ensures.1
     (word_causes k all v w number nets no_edge (Err e) c.in_err-words.ensures.keeps within made of_net built_nets ps h named includes)
 
 pub returns-clause-causes : goal.returns-clause-causes

@@ -1,6 +1,7 @@
 use Rattle.std.proofs.Common.{◌≡◌, refl, sym, ◌∙◌, subst, take, get_or, List, ℕ, arith}
 use Rattle.std.proofs.lemmas.List.{take_all, length-map}
 use Rattle.std.specs.Prelude.{Ok}
+use Rattle.builder.proofs.StoreLaws.{keeps_on}
 use Rattle.kinds.specs.Plain.{plain}
 use Rattle.word_apply.specs.Applied.{plain_edges}
 use Rattle.word_apply.proofs.EdgeLists.{still_edges}
@@ -52,3 +53,6 @@ returns-in_err-build_word-clause-causes g c = λ of_net built_nets ps h named ea
 
 pub returns-clause-causes : goal.returns-clause-causes
 returns-clause-causes g c = c.loop-number.invariant.caused
+
+pub returns-in_err-build_word-clause-keeps : goal.returns-in_err-build_word-clause-keeps
+returns-in_err-build_word-clause-keeps g c = keeps_on c.args.builder.now c.loop-number.builder c.build_word.new.builder c.loop-number.invariant.keeps c.build_word.ensures.keeps
