@@ -14,7 +14,7 @@ use kinds::{Edge, Kind};
 use record_store::Store;
 use word_base::{Assign, Decomp};
 
-/// The edge by which a step of the walk chooses, and the one to which it goes where this does not differ.
+/// The edge by which a step of the walk chooses, and the one to which it goes where the tried ones are the same.
 #[derive(Clone, Copy)]
 struct Choice<K: Kind, X = <K as Kind>::Extra> {
     tried: Edge<K, X>,
@@ -80,7 +80,7 @@ fn choose<K: Kind, S: Store>(builder: &Builder<K, S>, left: Choice<K>, right: Ch
     }
 }
 
-/// One step of the walk, at a level that lies above no node of the two edges.
+/// One step of the walk, at a level above which the two edges have no node.
 fn step<K: Kind, S: Store>(
     builder: &mut Builder<K, S>,
     level: u16,
