@@ -5,6 +5,8 @@ use std::test::Fail;
 
 const WORDS: &[&str] = &["check", "--kind", "hdd", "n", "s"];
 
+const KINDS: &[&str] = &["evbdd", "star_bmd", "hdd", "k_star_bmd"];
+
 const HALF: &str = "INPUT(a)\nINPUT(b)\nOUTPUT(s)\nOUTPUT(c)\ns = XOR(a, b)\nc = AND(a, b)\n";
 
 const HALF_OR: &str = "INPUT(a)\nINPUT(b)\nOUTPUT(s)\nOUTPUT(c)\ns = OR(a, b)\nc = AND(a, b)\n";
@@ -28,6 +30,10 @@ const C17_SPEC: &str = "word g = 22\nword p = 10\nword q = 16\ncheck g + p*q == 
 const NOR: &str = "INPUT(a)\nINPUT(b)\nz = NOR(a, b)\n";
 
 const NOR_SPEC: &str = "word a = a\nword b = b\nword z = z\ncheck z + a + b == 1 + a*b\n";
+
+const PRODUCT: &str = "INPUT(a0)\nINPUT(a1)\nINPUT(b0)\nINPUT(b1)\n";
+
+const PRODUCT_SPEC: &str = "word a = a0 a1\nword b = b0 b1\ncheck a*b == b*a\n";
 
 const PAIR: &str = "INPUT(a)\nINPUT(b)\n";
 
@@ -56,15 +62,27 @@ fn outcome(
     Ok((status.number(), out.bytes() == written.as_bytes()))
 }
 
-/// The same over two texts, with room for all.
+/// The same over two texts, by diagrams of a kind, with room for all.
+fn of_kind(
+    alloc: Global,
+    kind: &str,
+    netlist: &str,
+    spec: &str,
+    written: &str,
+) -> Result<(u8, bool), AllocError> {
+    let mut shelf = shelf_of(alloc, netlist.as_bytes(), spec.as_bytes())?;
+    let words = ["check", "--kind", kind, "n", "s"];
+    outcome(alloc, &words, &mut shelf, 1000, written)
+}
+
+/// The same by hybrid diagrams.
 fn of_texts(
     alloc: Global,
     netlist: &str,
     spec: &str,
     written: &str,
 ) -> Result<(u8, bool), AllocError> {
-    let mut shelf = shelf_of(alloc, netlist.as_bytes(), spec.as_bytes())?;
-    outcome(alloc, WORDS, &mut shelf, 1000, written)
+    of_kind(alloc, "hdd", netlist, spec, written)
 }
 
 #[test]
@@ -99,10 +117,13 @@ fn checks_are_decided(rt: HostRuntime) -> Result<(), Fail> {
             "check 1 overflow\n",
         ),
         (PAIR, GREAT_SPEC, 3, "check 1 overflow\n"),
+        (PRODUCT, PRODUCT_SPEC, 0, "check 1 equal\n"),
     ];
-    for (netlist, spec, status, line) in rows {
-        let answer = of_texts(rt.alloc(), netlist, spec, line)?;
-        assert_eq!(rt; answer, (status, true), "{line}");
+    for kind in KINDS {
+        for (netlist, spec, status, line) in rows {
+            let answer = of_kind(rt.alloc(), kind, netlist, spec, line)?;
+            assert_eq!(rt; answer, (status, true), "{kind}: {line}");
+        }
     }
     Ok(())
 }
@@ -140,6 +161,8 @@ fn what_is_not_taken_is_refused(rt: HostRuntime) -> Result<(), Fail> {
     let line = "refused words unbuilt\n";
     let answer = outcome(rt.alloc(), &["check"], &mut shelf, 1000, line)?;
     assert_eq!(rt; answer, (2, true));
+    let answer = of_kind(rt.alloc(), "bdd", HALF, HALF_SPEC, line)?;
+    assert_eq!(rt; answer, (2, true), "another kind");
     Ok(())
 }
 
