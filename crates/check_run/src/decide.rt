@@ -89,14 +89,15 @@ fn compare<K: Kind>(
         return Ok(Verdict::Equal);
     }
     let mut at = Assign::new(alloc, builder.levels())?;
-    let walked = first_difference(builder, 0, left, right, &mut at);
-    let _known = builder.store().len();
-    match walked {
+    match first_difference(builder, 0, left, right, &mut at) {
         Ok(()) => {
             let values = spec.evaluate(check, netlist, &at);
             verdict_at(at, values)
         }
-        Err(limit) => verdict_of_limit(BuildError::from(limit)),
+        Err(limit) => {
+            let _known = builder.store().len();
+            verdict_of_limit(BuildError::from(limit))
+        }
     }
 }
 
@@ -116,11 +117,12 @@ fn decide_by<K: Kind>(
     let levels = levels_of(alloc, spec)?;
     let store = SoloStore::create(alloc, CELLS)?;
     let mut builder = Builder::<K, SoloStore>::create(store, levels);
-    let built = build_one(alloc, &mut builder, netlist, spec, check);
-    let _known = builder.store().len();
-    match built {
+    match build_one(alloc, &mut builder, netlist, spec, check) {
         Ok(sides) => compare(alloc, &mut builder, netlist, spec, check, sides),
-        Err(error) => verdict_of_limit(error),
+        Err(error) => {
+            let _known = builder.store().len();
+            verdict_of_limit(error)
+        }
     }
 }
 
