@@ -150,7 +150,7 @@ more_pieces k v w ps qs id keeps within (x, (p, listed, is), shape) =
 -- the verdict from a limit that was met, over pieces of the work
 pub limit_decided : {X : Type 0} (k : KindName) (c : Circuit) (s : Specification) (place : ℕ) (check : Check) (v w : View) (count : ℕ) (ps : List Piece) (error : Limit) →
     slice_get s.checks place ≡ Some check → w.letters ≡ s.letters → w.store.room ≡ CELLS → IsSoloView w.store count → ((p : Piece) → Contains ps p → Contains (forward_work c s check) p) →
-    ((id : ℕ) → Contains w.store.made id → HasNodeShape k w (forward_work c s check) id) → HasCause k w ps (Err {A = X} error) →
+    ((id : ℕ) → Contains w.store.made id → HasNodeShape k w (forward_work c s check) id) → HasCause {X = X} k w ps (Err error) →
     IfOk (verdict_of_limit (build_error_of error)) (λ v. IsReported k c s place v)
 limit_decided k c s place check v w count ps limit.Overflow is letters room solo within made cause =
     let unfit = cause.overflow refl in
@@ -160,11 +160,11 @@ limit_decided k c s place check v w count ps limit.Full is letters room solo wit
     full_decided k c s place check is (short_of_spent k c s check w count letters room solo (cause.full refl).0 made)
 
 -- a limit that the building met
-pub not_built_decided : {X : Type 0} (k : KindName) (c : Circuit) (s : Specification) (place : ℕ) (check : Check) (v w : View) (count : ℕ) (error : BuildError) (r : Result Verdict AllocError) →
+pub not_built_decided : (X : Type 0) (k : KindName) (c : Circuit) (s : Specification) (place : ℕ) (check : Check) (v w : View) (count : ℕ) (error : BuildError) (r : Result Verdict AllocError) →
     slice_get s.checks place ≡ Some check → v.store.made ≡ [] → w.letters ≡ s.letters → w.store.room ≡ CELLS → IsSoloView w.store count → Keeps v w →
     IfSome (slice_get s.checks place) (λ sides. Causes k v w (building_work c s sides) (limit_met {X = X} (Err error))) → r ≡ verdict_of_limit error →
     IfOk r (λ x. IsReported k c s place x)
-not_built_decided {X = X} k c s place check v w count error r is empty letters room solo keeps caused verdict =
+not_built_decided X k c s place check v w count error r is empty letters room solo keeps caused verdict =
     subst (λ (o : Result Verdict AllocError). IfOk o (λ x. IsReported k c s place x)) (sym verdict)
     (by_error error (if_some_at (slice_get s.checks place) check (λ sides. Causes k v w (building_work c s sides) (limit_met {X = X} (Err error))) is caused))
   where
@@ -196,7 +196,7 @@ walk_within c s check differ p has =
 -- a limit that the walk met
 pub walk_decided : {X : Type 0} (k : KindName) (c : Circuit) (s : Specification) (place : ℕ) (check : Check) (v w : View) (count : ℕ) (error : Limit) (r : Result Verdict AllocError) →
     slice_get s.checks place ≡ Some check → HasBuilt k c s place v → (side c s check.left ≡ side c s check.right → ⊥) → Keeps v w → IsSoloView w.store count →
-    Causes k v w (walk v.letters 0 (side c s check.left) (side c s check.right)) (Err {A = X} error) → r ≡ verdict_of_limit (build_error_of error) →
+    Causes {X = X} k v w (walk v.letters 0 (side c s check.left) (side c s check.right)) (Err error) → r ≡ verdict_of_limit (build_error_of error) →
     IfOk r (λ x. IsReported k c s place x)
 walk_decided {X = X} k c s place check v w count error r is built differ keeps solo causes verdict =
     subst (λ (o : Result Verdict AllocError). IfOk o (λ x. IsReported k c s place x)) (sym verdict)
@@ -205,8 +205,8 @@ walk_decided {X = X} k c s place check v w count error r is built differ keeps s
     steps : List Piece
     steps = walk s.letters 0 (side c s check.left) (side c s check.right)
 
-    here : Causes k v w steps (Err {A = X} error)
-    here = subst (λ (ds : List Decomp). Causes k v w (walk ds 0 (side c s check.left) (side c s check.right)) (Err {A = X} error)) built.letters causes
+    here : Causes {X = X} k v w steps (Err error)
+    here = subst (λ (ds : List Decomp). Causes {X = X} k v w (walk ds 0 (side c s check.left) (side c s check.right)) (Err error)) built.letters causes
 
     within : (p : Piece) → Contains steps p → Contains (forward_work c s check) p
     within = walk_within c s check differ

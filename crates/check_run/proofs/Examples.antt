@@ -1,4 +1,5 @@
 -- Whole runs over the half adder's files.
+use Rattle.word_base.specs.declared.kind_name.KindName.TheVariants.{Hdd}
 use Rattle.std.proofs.Common.{refl, ℕ, List, [], inl, inr, lit≤}
 use Rattle.std.specs.Prelude.{codes, Some, None}
 use Rattle.std.specs.Fmt.{digits}
@@ -28,12 +29,14 @@ unfolding digits
 half-runs =
     line_written check_n_s (at both 0 []) (at both 2 (codes "check 1 equal\n")) (codes "check 1 equal\n") Done refl refl
     (inr (
+      Hdd,
       half,
       half_adder,
       Equal,
       record {
         names = n_and_s;
         named = refl;
+        kind = refl;
         netlist = (half_text, record { whole = refl; within = lit≤ tt }, refl);
         spec = (half_spec, record { whole = refl; within = lit≤ tt }, refl);
         fetches = refl;

@@ -24,7 +24,7 @@ whole_usual k c words check = record { allowed = usual_allowed k (input_count c)
 
 last_usual : (k : KindName) (c : Circuit) (words : List Word) (o : Option Check) (s : Specification) → option_map (with_usual c k words) o ≡ Some s → IsUsual k s
 last_usual k c words None s is = absurd (cc)
-last_usual k c words (Some check) s is = (let same : with_usual c k words check ≡ s = cc in subst (IsUsual k) k same (whole_usual k c words check))
+last_usual k c words (Some check) s is = (let same : with_usual c k words check ≡ s = cc in subst (IsUsual k) same (whole_usual k c words check))
 
 more_usual : (k : KindName) (o : Option Word) (next : Word → Option Specification) (s : Specification) → ((w : Word) → next w ≡ Some s → IsUsual k s) → option_and_then next o ≡ Some s → IsUsual k s
 more_usual k None next s all is = absurd (cc)

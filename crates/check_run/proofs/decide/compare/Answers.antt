@@ -1,11 +1,9 @@
-use Rattle.std.proofs.Common.{◌≡◌, sym, subst, arith}
-use Rattle.builder.specs.View.{View}
+use Rattle.std.proofs.Common.{◌≡◌, subst, arith}
 use Rattle.checks.specs.Sides.{side}
 use Rattle.cone_builder.proofs.NetLaws.{check_there}
 use Rattle.kinds.specs.Plain.{plain}
 use Rattle.record_store.specs.Solo.{IsSoloView}
 use Rattle.record_store.specs.StoreView.{StoreView}
-use Rattle.builder.specs.declared.limit.Limit.{Limit}
 use Rattle.check_run.specs.Deciding.{verdict_of_limit}
 use Rattle.check_run.proofs.DecideLaws.{equal_decided, evaluated_decided, sides_at, walk_decided}
 use Rattle.check_run.proofs.decide.compare.Goals as goal
@@ -81,9 +79,9 @@ returns-in-Err g c =
     let right = plain of c.args.sides.1 in
     let both = sides_at k n s c.args.check found.0 v left right found.1 c.requires.sides in
     let w = c.first_difference.new.builder in
-    let solo = subst (λ (x : StoreView). IsSoloView x c.len.result) c.store.ensures c.len.ensures.view in
+    let solo = subst (λ (x : StoreView). IsSoloView x c.len-known.result) c.store.ensures c.len-known.ensures.view in
     let differ : side n s found.0.left ≡ side n s found.0.right → ⊥ =
     λ is. let same = (c.same.ensures 0 (side n s found.0.left) (side n s found.0.right) both.0 both.1).1 is in let other = c.if-same.false in cc in
-    walk_decided {X = Unit {0}} k n s c.args.check found.0 v w c.len.result c.in-Err.limit c.verdict_of_limit.result found.1 c.requires.built differ c.in-Err.ensures.keeps solo
+    walk_decided {X = Unit {0}} k n s c.args.check found.0 v w c.len-known.result c.in-Err.limit c.verdict_of_limit.result found.1 c.requires.built differ c.in-Err.ensures.keeps solo
     (c.in-Err.ensures.causes (side n s found.0.left) (side n s found.0.right) both.0 both.1)
     (subst (λ (e : _). c.verdict_of_limit.result ≡ verdict_of_limit e) c.from.ensures c.verdict_of_limit.ensures)

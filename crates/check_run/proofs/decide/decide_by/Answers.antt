@@ -1,5 +1,6 @@
-use Rattle.std.proofs.Common.{◌≡◌, sym, ap, subst, ◌∙◌, ℕ, List, [], length}
-use Rattle.std.specs.Prelude.{Ok, Err, slice_get}
+use Rattle.kinds.specs.declared.kind.Edge.{Edge}
+use Rattle.std.proofs.Common.{◌≡◌, ap, subst, ◌∙◌, [], length}
+use Rattle.std.specs.Prelude.{Ok, slice_get}
 use Rattle.builder.specs.Answers.{Causes, HasNodeShape}
 use Rattle.builder.specs.View.{View}
 use Rattle.checks.specs.Forward.{building_work}
@@ -34,8 +35,8 @@ compare-requires-clause-built g c κs within =
           (built_of_fresh k n s found.0 v w (building_work n s found.0) (Ok tt) none_made causes id has);
     }
 
-pub returns-in-Err : goal.returns-in-Err
-returns-in-Err g c =
+pub returns : goal.returns
+returns g c =
     let k = g.K.Kind.NAME in
     let n = c.args.netlist.now in
     let s = c.args.spec.now in
@@ -47,6 +48,6 @@ returns-in-Err g c =
     let none_made : v.store.made ≡ [] = ap (λ (x : View). x.store.made) start ∙ ap (λ (x : Solo). (solo_view x).made) store in
     let cells : v.store.room ≡ CELLS = ap (λ (x : View). x.store.room) start ∙ ap (λ (x : Solo). x.cells) store in
     let letters = c.in-Err.ensures.keeps.letters ∙ ap (λ (x : View). x.letters) start ∙ c.in_ok-levels.ensures.letters in
-    let solo = subst (λ (x : StoreView). IsSoloView x c.len.result) c.store.ensures c.len.ensures.view in
-    not_built_decided k n s c.args.check found.0 v w c.len.result c.in-Err.error c.verdict_of_limit.result found.1 none_made letters
+    let solo = subst (λ (x : StoreView). IsSoloView x c.len-known.result) c.store.ensures c.len-known.ensures.view in
+    not_built_decided (Edge g.row.K.Denot g.row.K-Extra.Denot g.row.K-Extra.Denot × Edge g.row.K.Denot g.row.K-Extra.Denot g.row.K-Extra.Denot) k n s c.args.check found.0 v w c.len-known.result c.in-Err.error c.verdict_of_limit.result found.1 none_made letters
     (c.in-Err.ensures.keeps.room ∙ cells) solo c.in-Err.ensures.keeps c.in-Err.ensures.causes c.verdict_of_limit.ensures
