@@ -1,0 +1,12 @@
+pub mod Faults
+pub mod Fields
+pub mod Forms
+pub mod GoodDraft
+pub mod Grammar
+pub mod Names
+pub mod Parsing
+pub mod ReadFor
+pub mod Reading
+pub mod Symbols
+pub mod Texts
+pub mod Trees

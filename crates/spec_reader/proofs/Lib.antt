@@ -1,0 +1,14 @@
+pub mod CheckLines
+pub mod DraftLemmas
+pub mod FieldLemmas
+pub mod Formulas
+pub mod LineFaults
+pub mod Lists
+pub mod Minuses
+pub mod Nesting
+pub mod NetLemmas
+pub mod Numbers
+pub mod Reading
+pub mod Runs
+pub mod SoundSymbols
+pub mod SymbolLemmas

@@ -1,0 +1,13 @@
+pub mod Lists
+pub mod WordLaws
+pub mod ViewLaws
+pub mod Learning
+pub mod Drafts
+pub mod Publishing
+pub mod Chunks
+pub mod Splitting
+pub mod Joining
+pub mod Steps
+pub mod Passes
+pub mod PassStore
+pub mod Example

@@ -1,0 +1,8 @@
+pub mod Counts
+pub mod Words
+pub mod Views
+pub mod Rule
+pub mod Steps
+pub mod Laws
+pub mod PassStore
+pub mod Examples

@@ -1,0 +1,12 @@
+pub mod Taking
+pub mod Values
+pub mod Possible
+pub mod Dealing
+pub mod Walking
+pub mod Reading
+pub mod Exploring
+pub mod Stocked
+pub mod Probing
+pub mod Paths
+pub mod Passes
+pub mod Splits

@@ -1,0 +1,30 @@
+use Rattle.std.proofs.Common.{refl}
+use Rattle.table_rule.specs.declared.layout.Layout.{Layout}
+use Rattle.table_rule.specs.declared.view.PassView.{PassView}
+use Rattle.unique_table.proofs.Reading.{met_within, can_read, reads, reads_known}
+use Rattle.unique_table.proofs.walk.read_word.Goals as goal
+
+pub read_at-requires : goal.read_at-requires
+read_at-requires c =
+    let within = met_within c.args.table.now.layout c.args.place.now.me.0 c.requires.possible c.requires.live c.args.id c.requires.met in
+    record {
+      own = c.requires.own;
+      some = within.0;
+      small = within.1;
+      few = c.requires.few;
+      key = refl;
+      allowed = can_read c.args.table.now.layout c.args.place.now.me.0 c.args.id c.args.i c.requires.live c.requires.few c.requires.met;
+    }
+
+pub returns : goal.returns
+returns c =
+    let L : Layout = c.args.table.now.layout in
+    let v : PassView = c.args.place.now.me.0 in
+    let w : PassView = c.read_at.new.place.me.0 in
+    let h = c.read_at.ensures.taken in
+    record {
+      own = c.read_at.ensures.own;
+      view = reads L v w c.args.id c.args.i c.read_at.result h;
+      possible = h.after;
+      known = reads_known L v w c.args.id c.args.i c.read_at.result c.requires.few h;
+    }

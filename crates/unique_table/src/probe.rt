@@ -1,0 +1,213 @@
+//! The path of a body through the buckets, to its id or to an empty bucket.
+ghost use Rattle.std.specs.Prelude.{◌≡◌, ℕ, ◌+◌, ◌<◌, ◌≤◌, true, false, IsTrue};
+ghost use Rattle.table_rule.specs.Counts.{IsIn};
+ghost use Rattle.table_rule.specs.Laws.{IsViewOf};
+ghost use Rattle.table_rule.specs.PassStore.{is_spent};
+ghost use Rattle.table_rule.specs.Steps.{IsCovered};
+ghost use Rattle.unique_table.specs.Exploring.{HasExplored};
+ghost use Rattle.unique_table.specs.Probing.{IsDrafted, HasAdded, HasLost, Claims, Compares, Visits, Ends};
+ghost use Rattle.unique_table.specs.Stocked.{IsStock};
+ghost use Rattle.unique_table.specs.declared.stock.Stock.{Stock};
+ghost use Rattle.unique_table.specs.Walking.{IsAt};
+
+use crate::body::{has_body, write_draft};
+use crate::step::Place;
+use crate::stock::{Stock, restock};
+use crate::table::SharedTable;
+use crate::walk::{look, publish_at};
+use record_store::{StoreFull, start};
+
+/// What came of an empty bucket.
+#[derive(Clone, Copy, Drop)]
+pub(crate) enum Claim {
+    /// The body was published there, under this id.
+    Made(u32),
+    /// Another pass was there before, with this id.
+    Lost(u32),
+    /// There is no cell for the body.
+    Spent,
+}
+
+/// What came of a bucket.
+#[derive(Clone, Copy, Drop)]
+pub(crate) enum Visit {
+    /// The body stands there, under this id.
+    Found(u32),
+    /// Another body stands there.
+    Other,
+    /// It is empty, and there is no cell for the body.
+    Full,
+}
+
+/// Writes the body into a cell, where that was not done before. It says whether there was a cell.
+fn prepare(
+    table: &SharedTable,
+    place: &mut Place,
+    stock: &mut Stock,
+    body: &[u64; 8],
+    drafted: &mut bool,
+) -> bool
+    requires own { IsAt table.now place.old }
+    requires live { place.old.me.0.ended ≡ false }
+    requires possible { IsViewOf table.now.layout place.old.me.0 }
+    requires stock { IsStock table.now.layout place.old.me.0 stock.old }
+    requires drafted { drafted.old ≡ true → IsDrafted place.old.me.0 body.now stock.old }
+    ensures own { IsAt table.now place.new }
+    ensures possible { IsViewOf table.now.layout place.new.me.0 }
+    ensures stock { IsStock table.now.layout place.new.me.0 stock.new }
+    ensures explored { HasExplored place.old.me.0 place.new.me.0 }
+    ensures yes { IsTrue result → IsDrafted place.new.me.0 body.now stock.new }
+    ensures no { result ≡ false → is_spent table.now.layout place.new.me.0 ≡ true }
+{
+    if *drafted {
+        return true;
+    }
+    if !restock(table, place, stock) {
+        return false;
+    }
+    write_draft(table, place, stock.next, body);
+    *drafted = true;
+    true
+}
+
+/// Tries to publish the draft in a bucket. It answers 0, or the id that was found there.
+fn publish_draft(
+    table: &SharedTable,
+    place: &mut Place,
+    stock: &mut Stock,
+    bucket: u64,
+    body: &[u64; 8],
+) -> u32
+    requires own { IsAt table.now place.old }
+    requires live { place.old.me.0.ended ≡ false }
+    requires possible { IsViewOf table.now.layout place.old.me.0 }
+    requires stock { IsStock table.now.layout place.old.me.0 stock.old }
+    requires drafted { IsDrafted place.old.me.0 body.now stock.old }
+    requires within { bucket < table.now.layout.buckets }
+    requires covered { IsCovered table.now.layout place.old.me.0 body.now bucket }
+    ensures own { IsAt table.now place.new }
+    ensures possible { IsViewOf table.now.layout place.new.me.0 }
+    ensures stock { IsStock table.now.layout place.new.me.0 stock.new }
+    ensures made { result ≡ 0 → HasAdded place.old.me.0 stock.new.next body.now place.new.me.0 }
+    ensures lost { 0 < result → HasLost place.old.me.0 bucket result place.new.me.0 × IsDrafted place.new.me.0 body.now stock.new }
+{
+    let _layout = &table.layout;
+    let found = publish_at(table, place, stock.next, bucket) as u32;
+    if found == 0 {
+        stock.next += 1;
+    }
+    found
+}
+
+/// Puts a body that is not known into an empty bucket.
+fn settle(
+    table: &SharedTable,
+    place: &mut Place,
+    stock: &mut Stock,
+    bucket: u64,
+    body: &[u64; 8],
+    drafted: &mut bool,
+) -> Claim
+    requires own { IsAt table.now place.old }
+    requires live { place.old.me.0.ended ≡ false }
+    requires possible { IsViewOf table.now.layout place.old.me.0 }
+    requires stock { IsStock table.now.layout place.old.me.0 stock.old }
+    requires drafted { drafted.old ≡ true → IsDrafted place.old.me.0 body.now stock.old }
+    requires within { bucket < table.now.layout.buckets }
+    requires covered { IsCovered table.now.layout place.old.me.0 body.now bucket }
+    ensures own { IsAt table.now place.new }
+    ensures possible { IsViewOf table.now.layout place.new.me.0 }
+    ensures stock { IsStock table.now.layout place.new.me.0 stock.new }
+    ensures came { Claims table.now.layout place.old.me.0 body.now bucket result stock.new place.new.me.0 }
+{
+    if !prepare(table, place, stock, body, drafted) {
+        return Claim::Spent;
+    }
+    let found = publish_draft(table, place, stock, bucket, body);
+    if found == 0 {
+        Claim::Made(stock.next)
+    } else {
+        Claim::Lost(found)
+    }
+}
+
+/// Compares the body with that under an id that was seen in a bucket.
+fn compare(table: &SharedTable, place: &mut Place, bucket: u64, id: u32, body: &[u64; 8]) -> Visit
+    requires own { IsAt table.now place.old }
+    requires live { place.old.me.0.ended ≡ false }
+    requires possible { IsViewOf table.now.layout place.old.me.0 }
+    requires seen { IsIn place.old.me.0.seen (bucket, id) }
+    ensures own { IsAt table.now place.new }
+    ensures possible { IsViewOf table.now.layout place.new.me.0 }
+    ensures came { Compares place.old.me.0 body.now bucket result place.new.me.0 }
+    ensures stock { (s : Stock) → IsStock table.now.layout place.old.me.0 s → IsStock table.now.layout place.new.me.0 s }
+{
+    if has_body(table, place, id, body) {
+        Visit::Found(id)
+    } else {
+        Visit::Other
+    }
+}
+
+/// Goes to one bucket on the path of the body.
+fn visit_bucket(
+    table: &SharedTable,
+    place: &mut Place,
+    stock: &mut Stock,
+    bucket: u64,
+    body: &[u64; 8],
+    drafted: &mut bool,
+) -> Visit
+    requires own { IsAt table.now place.old }
+    requires live { place.old.me.0.ended ≡ false }
+    requires possible { IsViewOf table.now.layout place.old.me.0 }
+    requires stock { IsStock table.now.layout place.old.me.0 stock.old }
+    requires drafted { drafted.old ≡ true → IsDrafted place.old.me.0 body.now stock.old }
+    requires within { bucket < table.now.layout.buckets }
+    requires covered { IsCovered table.now.layout place.old.me.0 body.now bucket }
+    ensures own { IsAt table.now place.new }
+    ensures possible { IsViewOf table.now.layout place.new.me.0 }
+    ensures stock { IsStock table.now.layout place.new.me.0 stock.new }
+    ensures came { Visits table.now.layout place.old.me.0 body.now bucket result drafted.new stock.new place.new.me.0 }
+{
+    let _layout = &table.layout;
+    let found = look(table, place, bucket) as u32;
+    if found != 0 {
+        return compare(table, place, bucket, found, body);
+    }
+    match settle(table, place, stock, bucket, body, drafted) {
+        Claim::Made(id) => Visit::Found(id),
+        Claim::Lost(id) => compare(table, place, bucket, id, body),
+        Claim::Spent => Visit::Full,
+    }
+}
+
+/// Follows the path of a body to its id, or to an empty bucket, where it is put in.
+pub(crate) fn find_or_add(
+    table: &SharedTable,
+    place: &mut Place,
+    stock: &mut Stock,
+    body: &[u64; 8],
+) -> Result<u32, StoreFull>
+    requires own { IsAt table.now place.old }
+    requires live { place.old.me.0.ended ≡ false }
+    requires possible { IsViewOf table.now.layout place.old.me.0 }
+    requires stock { IsStock table.now.layout place.old.me.0 stock.old }
+    ensures own { IsAt table.now place.new }
+    ensures possible { IsViewOf table.now.layout place.new.me.0 }
+    ensures stock { IsStock table.now.layout place.new.me.0 stock.new }
+    ensures came { Ends table.now.layout place.old.me.0 body.now result place.new.me.0 }
+{
+    let buckets = table.layout.buckets;
+    let mask = buckets - 1;
+    let mut bucket = start(body, buckets);
+    let mut drafted = false;
+    for distance in 0..buckets {
+        match visit_bucket(table, place, stock, bucket, body, &mut drafted) {
+            Visit::Found(id) => return Ok(id),
+            Visit::Full => return Err(StoreFull),
+            Visit::Other => bucket = (bucket + 1) & mask,
+        }
+    }
+    unreachable!()
+}
