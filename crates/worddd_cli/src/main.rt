@@ -1,4 +1,4 @@
-//! The program: `worddd check --kind hdd NETLIST SPECIFICATION`. It decides the check of the specification over
+//! The program: `worddd check --kind KIND NETLIST SPECIFICATION`. It decides the check of the specification over
 //! the netlist, prints one line, and ends with the number of its status.
 #![tactic(auto)]
 
