@@ -1,19 +1,21 @@
 -- A pass as a store: what a call of `intern` does to it, and what its ids stand for.
-use Rattle.std.proofs.Common.{◌≡◌, ℕ, zero, suc, ◌*◌, ◌<◌, List, [], ◌∷◌, ◌++◌, length, cond, Some, false, Ok, Err, Result, refl, sym, ap, subst, ◌∙◌, inl, inr, ⊎_elim, arith}
+use Rattle.std.proofs.lemmas.Bool.Decides.{Decides-ltb}
+use Rattle.std.proofs.lemmas.Bool.{cases_eq}
+use Rattle.std.proofs.Common.{◌≡◌, ℕ, zero, suc, ◌*◌, ◌<◌, List, [], ◌∷◌, ◌++◌, length, cond, Some, false, Ok, Err, Result, refl, sym, ap, subst, ◌∙◌, inl, inr, ⊎_elim, arith, ◌≢◌, Bool, true, true≢false, ◌&&◌}
 use Rattle.std.specs.FinMap.{from_entries}
-use Rattle.std.specs.Prelude.{slice_index}
+use Rattle.std.specs.Prelude.{slice_index, nat_lt}
 use Rattle.record_store.specs.Interns.{Interns}
 use Rattle.record_store.specs.StoreView.{find_in}
 use Rattle.record_store.specs.declared.store.StoreFull.{StoreFull}
-use Rattle.table_rule.specs.Counts.{IsIn}
+use Rattle.table_rule.specs.Counts.{IsIn, times}
 use Rattle.table_rule.specs.Laws.{IsViewOf}
-use Rattle.table_rule.specs.PassStore.{pass_store, stamp_of, is_spent}
+use Rattle.table_rule.specs.PassStore.{pass_store, stamp_of, is_spent, is_empty, has_below}
 use Rattle.table_rule.specs.Views.{joined_view, see_chunk}
-use Rattle.table_rule.specs.Words.{IsLayout}
+use Rattle.table_rule.specs.Words.{IsLayout, chunks}
 use Rattle.table_rule.specs.declared.layout.Layout.{Layout}
 use Rattle.table_rule.specs.declared.view.PassView.{PassView}
-use Rattle.table_rule.proofs.Lists.{in_left, in_right, in_append}
-use Rattle.table_rule.proofs.PassStore.{known_in, in_known, interns_known, interns_made, interns_full}
+use Rattle.table_rule.proofs.Lists.{in_left, in_right, in_append, is_in_times}
+use Rattle.table_rule.proofs.PassStore.{known_in, in_known, interns_known, interns_made, interns_full, spends}
 use Rattle.table_rule.proofs.Passes.{knows_once, makes_once, whole_owns_all, known_placed}
 use Rattle.table_rule.proofs.WordLaws.{same_eight, eight_of}
 use Rattle.unique_table.specs.Exploring.{HasOnlyRead}
@@ -57,6 +59,28 @@ module _ (names : List ℕ) (L : Layout) where
       let node_long : length node ≡ 8 = ap (λ (n : List ℕ). length n) (sym is) in
       sym (eight_of node node_long) ∙ same_eight (slice_index node) (slice_index words) (λ j few. sym (same j few)) ∙ eight_of words long
 
+both_true : (a b : Bool) → (a && b) ≡ true → (a ≡ true) × (b ≡ true)
+both_true true b e = (refl, e)
+both_true false b e = absurd (true≢false (sym e))
+
+empty_is : (xs : List ℕ) → is_empty xs ≡ true → xs ≡ []
+empty_is [] e = refl
+empty_is (x ∷ xs) e = absurd (true≢false (sym e))
+
+below_is : (xs : List ℕ) (n : ℕ) → has_below xs n ≡ true → (h : ℕ) → h < n → IsIn xs h
+below_is xs zero e h few = absurd (omega arith)
+below_is xs (suc n) e h few =
+    let parts = both_true (nat_lt 0 (times n xs)) (has_below xs n) e in
+    ⊎_elim
+    (λ (last : h ≡ n). subst (IsIn xs) (sym last) (is_in_times n xs ((Decides-ltb 0 (times n xs)).0 parts.0)))
+    (λ (before : h ≢ n). below_is xs n parts.1 h (omega arith))
+    (cases_eq h n)
+
+spent_is : (L : Layout) (v : PassView) → is_spent L v ≡ true → (v.held ≡ []) × ((h : ℕ) → h < chunks L → IsIn v.taken h)
+spent_is L v e =
+    let parts = both_true (is_empty v.held) (has_below v.taken (chunks L)) e in
+    (empty_is v.held parts.0, below_is v.taken (chunks L) parts.1)
+
 -- what holds of every pass
 pub sound : (names : List ℕ) (L : Layout) (v : PassView) → IsShape L → IsViewOf L v → IsSoundPass (record { names = names; layout = L; view = v })
 sound names L v shape p =
@@ -71,6 +95,7 @@ sound names L v shape p =
       made_known = λ id there. let k = makes.known id there in (k.0, in_known names L v once id k.0 k.1);
       held = omega (arith, few.0);
       gone = let e : L.chunk * v.joined ≡ 256 * v.joined = ap (λ (n : ℕ). n * v.joined) size in omega (arith, few.1);
+      spent = (λ e. spent_is L v e, λ all. spends L v all.0 all.1);
       whole = whole_owns_all L v shape.layout p;
     }
 

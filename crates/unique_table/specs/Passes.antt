@@ -1,9 +1,10 @@
 -- Passes as stores, and what they are to each other.
-use Rattle.std.specs.Prelude.{◌≡◌, ◌⊎◌, ◌↔◌, ℕ, ◌+◌, ◌*◌, ◌<◌, ◌≤◌, List, ◌++◌, ◌||◌, length, Some}
+use Rattle.std.specs.Prelude.{◌≡◌, ◌⊎◌, ◌↔◌, ℕ, ◌+◌, ◌*◌, ◌<◌, ◌≤◌, List, ◌++◌, ◌||◌, length, Some, [], IsTrue}
 use Rattle.record_store.specs.StoreView.{StoreView, find_in, IsKnown}
 use Rattle.table_rule.specs.Counts.{IsIn, times}
 use Rattle.table_rule.specs.Laws.{IsWhole, OwnsAll}
 use Rattle.table_rule.specs.PassStore.{pass_store}
+use Rattle.table_rule.specs.Words.{chunks}
 use Rattle.table_rule.specs.declared.view.PassView.{PassView}
 use Rattle.unique_table.specs.declared.token.PassValue.{PassValue}
 
@@ -29,6 +30,8 @@ pub record IsSoundPass (p : PassValue) : Type 0 where
   -- the cells that it owns, and those given up to it, are few
   pub held : length p.view.held ≤ 256
   pub gone : length p.view.gone ≤ 256 * p.view.joined
+  -- it is spent exactly where it owns no cell and has seen every chunk taken
+  pub spent : IsTrue (pass_view p).spent ↔ ((p.view.held ≡ []) × ((h : ℕ) → h < chunks p.layout → IsIn p.view.taken h))
   -- a pass with all tokens of its table that was never forked owns each cell of each chunk that it has seen taken
   pub whole : IsWhole p.layout p.view → OwnsAll p.layout p.view
 

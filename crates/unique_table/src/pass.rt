@@ -81,6 +81,7 @@ impl<'t> SharedPass<'t> {
     pub fn meet(&mut self, other: SharedPass<'t>)
         requires table { IsOneTable self.old other }
         ensures met { HasMet self.old other.entry self.new }
+        ensures sound { IsSoundPass self.new }
     {
         let SharedPass {
             table: _,

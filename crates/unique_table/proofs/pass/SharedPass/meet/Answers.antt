@@ -6,7 +6,7 @@ use Rattle.table_rule.specs.declared.view.PassView.{PassView}
 use Rattle.unique_table.specs.Passes.{HasMet}
 use Rattle.unique_table.specs.declared.table.TableValue.{TableValue}
 use Rattle.unique_table.specs.declared.token.PassValue.{PassValue}
-use Rattle.unique_table.proofs.Passes.{meets}
+use Rattle.unique_table.proofs.Passes.{meets, sound}
 use Rattle.unique_table.proofs.Possible.{joins_seats}
 use Rattle.unique_table.proofs.Splits.{pass_met}
 use Rattle.unique_table.proofs.Values.{same_names}
@@ -54,4 +54,7 @@ returns c =
     let old : PassValue = record { names = t.names; layout = t.layout; view = v } in
     let of_table : HasMet old (record { names = o.names; layout = o.layout; view = u }) new = subst (λ (x : List ℕ × Layout). HasMet old (record { names = x.0; layout = x.1; view = u }) new) (λ i. (sym names i, sym layout i)) met in
     let of_other : HasMet old c.args.other new = subst (λ (q : PassValue). HasMet old q new) c.other.view_is of_table in
-    record { met = subst (λ (p : PassValue). HasMet p c.args.other new) c.self.view_is of_other }
+    record {
+      met = subst (λ (p : PassValue). HasMet p c.args.other new) c.self.view_is of_other;
+      sound = sound t.names t.layout w c.self.invariant.shape e.possible;
+    }
