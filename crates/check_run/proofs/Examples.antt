@@ -12,7 +12,7 @@ use Rattle.check_run.specs.Outside.{Files, Outside}
 use Rattle.check_run.specs.Reading.{FailsToRead}
 use Rattle.check_run.specs.Run.{IsRun}
 use Rattle.check_run.specs.Words.{check_n_s, n_and_s}
-use Rattle.check_run.proofs.RunLaws.{failed_to_read, line_written}
+use Rattle.check_run.proofs.RunLaws.{failed_to_read, text_written}
 
 -- a shelf of these files that was asked so often, and a sink that was given these bytes
 abbrev at : Files → ℕ → List ℕ → Outside
@@ -24,15 +24,19 @@ at files fetches written = record {
 abbrev both : Files
 both = two_files half_text (Some half_spec)
 
+one_verdict : (place : ℕ) (verdict : Verdict) → slice_get (Equal ∷ []) place ≡ Some verdict → IsReported Hdd half half_adder place verdict
+one_verdict zero verdict is = (half_adder_check, refl, ?)
+one_verdict (suc place) verdict is = ?
+
 half-runs : IsRun check_n_s (at both 0 []) (at both 2 (codes "check 1 equal\n")) Done
 unfolding digits
 half-runs =
-    line_written check_n_s (at both 0 []) (at both 2 (codes "check 1 equal\n")) (codes "check 1 equal\n") Done refl refl
+    text_written check_n_s (at both 0 []) (at both 2 (codes "check 1 equal\n")) (codes "check 1 equal\n") Done refl refl
     (inr (
       Hdd,
       half,
       half_adder,
-      Equal,
+      Equal ∷ [],
       record {
         names = n_and_s;
         named = refl;
@@ -41,7 +45,7 @@ half-runs =
         spec = (half_spec, record { whole = refl; within = lit≤ tt }, refl);
         fetches = refl;
       },
-      (half_adder_check, refl, refl),
+      record { one_each = refl; each = one_verdict },
       record { text_is = refl; status_is = refl },
     ))
     refl refl

@@ -3,5 +3,5 @@ pub mod Examples
 pub mod FileLaws
 pub mod LimitLaws
 pub mod LoadLaws
+pub mod ReportLaws
 pub mod RunLaws
-pub mod UsualLaws

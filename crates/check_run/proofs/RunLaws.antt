@@ -1,13 +1,14 @@
 -- What a run does, from what it loaded, wrote and answers.
-use Rattle.std.proofs.Common.{◌≡◌, refl, sym, ◌∙◌, ap, subst, ℕ, ◌≤◌, true, false, List, [], ◌∷◌, length, arith, inl, inr, le_refl}
+use Rattle.std.proofs.Common.{◌≡◌, refl, sym, ◌∙◌, ap, subst, ℕ, ◌≤◌, Bool, true, false, if◌then◌else◌, List, [], ◌∷◌, length, arith, inl, inr, le_refl}
 use Rattle.std.specs.Prelude.{Option, Some, None, Result, Ok, Err, IfOk, OnErr, slice_get}
+use Rattle.std.specs.List.{list_any}
 use Rattle.std.specs.declared.alloc.AllocError.{AllocError}
 use Rattle.std.specs.Io.KnownBytes.{Appends}
 use Rattle.std.proofs.lemmas.Option.{same_Some}
 use Rattle.circuits.specs.Circuit.{Circuit}
-use Rattle.bench_reader.specs.Reading.{reading}
+use Rattle.bench_reader.specs.Reading as bench
 use Rattle.spec_lang.specs.Specification.{Check, Specification}
-use Rattle.first_form.specs.FirstForm.{first_form}
+use Rattle.spec_grammar.specs.Reading as spec
 use Rattle.word_base.specs.declared.kind_name.KindName.{KindName}
 use Rattle.checks.specs.Answer.{answer}
 use Rattle.checks.specs.declared.verdict.Verdict.{Verdict}
@@ -23,9 +24,9 @@ use Rattle.check_run.specs.Files.{Accepts, IsText, RefusesNetlist, RefusesSpec, 
 use Rattle.check_run.specs.Loading.{PutsText}
 use Rattle.check_run.specs.Outside.{Files, Outside, ShelfSeen}
 use Rattle.check_run.specs.Reading.{FailsToRead, IsRefused, IsTaken, IsUnread, WantsMemory}
-use Rattle.check_run.specs.Run.{GivesAnswer, IsLine, IsRefusalLine, IsRun, IsVerdictLine, WritesAnswer, is_written}
-use Rattle.check_run.specs.Statuses.{status_of}
-use Rattle.check_run.specs.Verdicts.{IsReported, IsVerdictOf, MeetsNoLimit}
+use Rattle.check_run.specs.Run.{AnswerAll, GivesReport, IsOutput, IsRefusalLine, IsReport, IsRun, WritesReport, is_written}
+use Rattle.check_run.specs.Statuses.{is_different, is_limit}
+use Rattle.check_run.specs.Verdicts.{AreReported, IsReported, IsVerdictOf, MeetsNoLimit}
 use Rattle.check_run.specs.Words.{Names, names_of}
 use Rattle.check_run.proofs.FileLaws.{longer_is_there, text_is_there}
 
@@ -36,7 +37,7 @@ refused_is_there files name r (inr (text, fault, is, reads, says)) lacks = text_
 
 refused_spec_is_there : (files : Files) (name : List ℕ) (k : KindName) (c : Circuit) (r : Refusal) → RefusesSpec files name k c r → Lacks files name → ⊥
 refused_spec_is_there files name k c r (inl (is, longer)) lacks = longer_is_there files name longer lacks
-refused_spec_is_there files name k c r (inr (text, is, none, says)) lacks = text_is_there files name text is lacks
+refused_spec_is_there files name k c r (inr (text, fault, is, reads, says)) lacks = text_is_there files name text is lacks
 
 -- ---- want of memory
 refused_wants : (words : List (List ℕ)) (old new : ShelfSeen) (r : Refusal) → IsRefused words old new r → WantsMemory words old new
@@ -50,9 +51,9 @@ taken_wants : (words : List (List ℕ)) (old new : ShelfSeen) (k : KindName) (c 
 taken_wants words old new k c s taken =
     inr (taken.names, taken.named, inr (c, taken.netlist, taken.fetches, text_is_there old.files taken.names.spec taken.spec.0 taken.spec.1))
 
-line_wants : (words : List (List ℕ)) (old new : ShelfSeen) (text : List ℕ) (status : Status) → IsLine words old new text status → WantsMemory words old new
-line_wants words old new text status (inl (r, refused, line)) = refused_wants words old new r refused
-line_wants words old new text status (inr (k, c, s, verdict, taken, reported, line)) = taken_wants words old new k c s taken
+output_wants : (words : List (List ℕ)) (old new : ShelfSeen) (text : List ℕ) (status : Status) → IsOutput words old new text status → WantsMemory words old new
+output_wants words old new text status (inl (r, refused, line)) = refused_wants words old new r refused
+output_wants words old new text status (inr (k, c, s, verdicts, taken, reported, report)) = taken_wants words old new k c s taken
 
 same_names : (words : List (List ℕ)) (a b : Names) → names_of words ≡ Some a → names_of words ≡ Some b → a ≡ b
 same_names words a b is other = same_Some a b (sym is ∙ other)
@@ -67,8 +68,8 @@ not_absent words old new names (inr (found, is, inr (c, says, twice, there))) na
     (subst (λ (n : Names). Lacks old.files n.netlist) (same_names words names found named is) lacks)
 
 -- ---- what is taken is not refused
-same_circuit : (text other : List ℕ) (c d : Circuit) → reading text ≡ Ok c → reading other ≡ Ok d → other ≡ text → d ≡ c
-same_circuit text other c d reads says is = let both : reading text ≡ Ok d = ap reading (sym is) ∙ says in cc
+same_circuit : (text other : List ℕ) (c d : Circuit) → bench.reading text ≡ Ok c → bench.reading other ≡ Ok d → other ≡ text → d ≡ c
+same_circuit text other c d reads says is = let both : bench.reading text ≡ Ok d = ap bench.reading (sym is) ∙ says in cc
 
 -- a told text is the only one
 only_text : (files : Files) (name text other : List ℕ) → Holds files name text → IsText files name other → other ≡ text
@@ -78,124 +79,138 @@ not_longer : (files : Files) (name text : List ℕ) → Holds files name text �
 not_longer files name text holds within longer =
     let more = subst (λ (o : Option (Option (List ℕ))). IsLonger o MOST_BYTES) holds longer in omega (arith, more, within)
 
-accepted_netlist : (words : List (List ℕ)) (files : Files) (k : KindName) (c d : Circuit) (s : Specification) (check : Check) (names : Names) → Accepts words files k c s check →
+accepted_netlist : (words : List (List ℕ)) (files : Files) (k : KindName) (c d : Circuit) (s : Specification) (names : Names) → Accepts words files k c s →
     names_of words ≡ Some names → SaysNetlist files names.netlist d → d ≡ c
-accepted_netlist words files k c d s check names takes named (text, is, reads) =
+accepted_netlist words files k c d s names takes named (text, is, reads) =
     let same = same_names words names takes.names named takes.named in
     same_circuit takes.netlist_text text c d takes.reads reads
     (only_text files takes.names.netlist takes.netlist_text text takes.netlist (subst (λ (n : Names). IsText files n.netlist text) same is))
 
-same_kind : (words : List (List ℕ)) (files : Files) (k : KindName) (c : Circuit) (s : Specification) (check : Check) (names : Names) → Accepts words files k c s check →
+same_kind : (words : List (List ℕ)) (files : Files) (k : KindName) (c : Circuit) (s : Specification) (names : Names) → Accepts words files k c s →
     names_of words ≡ Some names → names.kind ≡ k
-same_kind words files k c s check names takes named = ap (λ (n : Names). n.kind) (same_names words names takes.names named takes.named) ∙ takes.kind
+same_kind words files k c s names takes named = ap (λ (n : Names). n.kind) (same_names words names takes.names named takes.named) ∙ takes.kind
 
-accepted_spec : (words : List (List ℕ)) (files : Files) (k : KindName) (c : Circuit) (s : Specification) (check : Check) (names : Names) (text : List ℕ) → Accepts words files k c s check →
-    names_of words ≡ Some names → IsText files names.spec text → first_form c k text ≡ Some s
-accepted_spec words files k c s check names text takes named is =
+accepted_spec : (words : List (List ℕ)) (files : Files) (k : KindName) (c : Circuit) (s : Specification) (names : Names) (text : List ℕ) → Accepts words files k c s →
+    names_of words ≡ Some names → IsText files names.spec text → spec.reading c k text ≡ Ok s
+accepted_spec words files k c s names text takes named is =
     let same = same_names words names takes.names named takes.named in
-    ap (first_form c k) (only_text files takes.names.spec takes.spec_text text takes.spec (subst (λ (n : Names). IsText files n.spec text) same is)) ∙ takes.says
+    ap (spec.reading c k) (only_text files takes.names.spec takes.spec_text text takes.spec (subst (λ (n : Names). IsText files n.spec text) same is)) ∙ takes.says
 
-netlist_not_refused : (words : List (List ℕ)) (files : Files) (k : KindName) (c : Circuit) (s : Specification) (check : Check) (names : Names) (r : Refusal) → Accepts words files k c s check →
+netlist_not_refused : (words : List (List ℕ)) (files : Files) (k : KindName) (c : Circuit) (s : Specification) (names : Names) (r : Refusal) → Accepts words files k c s →
     names_of words ≡ Some names → RefusesNetlist files names.netlist r → ⊥
-netlist_not_refused words files k c s check names r takes named (inl (is, longer)) =
+netlist_not_refused words files k c s names r takes named (inl (is, longer)) =
     let same = same_names words names takes.names named takes.named in
     not_longer files takes.names.netlist takes.netlist_text takes.netlist takes.netlist_within
     (subst (λ (n : Names). IsLonger (told files n.netlist) MOST_BYTES) same longer)
-netlist_not_refused words files k c s check names r takes named (inr (text, fault, is, reads, says)) =
+netlist_not_refused words files k c s names r takes named (inr (text, fault, is, reads, says)) =
     let same = same_names words names takes.names named takes.named in
     let one = only_text files takes.names.netlist takes.netlist_text text takes.netlist (subst (λ (n : Names). IsText files n.netlist text) same is) in
-    let both : Ok c ≡ Err fault = sym takes.reads ∙ ap reading (sym one) ∙ reads in absurd (cc)
+    let both : Ok c ≡ Err fault = sym takes.reads ∙ ap bench.reading (sym one) ∙ reads in absurd (cc)
 
-spec_not_refused : (words : List (List ℕ)) (files : Files) (k : KindName) (c : Circuit) (s : Specification) (check : Check) (names : Names) (r : Refusal) →
-    Accepts words files k c s check → names_of words ≡ Some names → RefusesSpec files names.spec k c r → ⊥
-spec_not_refused words files k c s check names r takes named (inl (is, longer)) =
+spec_not_refused : (words : List (List ℕ)) (files : Files) (k : KindName) (c : Circuit) (s : Specification) (names : Names) (r : Refusal) →
+    Accepts words files k c s → names_of words ≡ Some names → RefusesSpec files names.spec k c r → ⊥
+spec_not_refused words files k c s names r takes named (inl (is, longer)) =
     let same = same_names words names takes.names named takes.named in
     not_longer files takes.names.spec takes.spec_text takes.spec takes.spec_within
     (subst (λ (n : Names). IsLonger (told files n.spec) MOST_BYTES) same longer)
-spec_not_refused words files k c s check names r takes named (inr (text, is, none, says)) =
-    let both : Some s ≡ None = sym (accepted_spec words files k c s check names text takes named is) ∙ none in absurd (cc)
+spec_not_refused words files k c s names r takes named (inr (text, fault, is, reads, says)) =
+    let both : Ok s ≡ Err fault = sym (accepted_spec words files k c s names text takes named is) ∙ reads in absurd (cc)
 
-not_refused : (words : List (List ℕ)) (old new : ShelfSeen) (k : KindName) (c : Circuit) (s : Specification) (check : Check) (r : Refusal) → Accepts words old.files k c s check →
+not_refused : (words : List (List ℕ)) (old new : ShelfSeen) (k : KindName) (c : Circuit) (s : Specification) (r : Refusal) → Accepts words old.files k c s →
     IsRefused words old new r → ⊥
-not_refused words old new k c s check r takes (inl (none, never, is)) = let named = takes.named in absurd (cc)
-not_refused words old new k c s check r takes (inr (names, named, inl (once, refuses))) =
-    netlist_not_refused words old.files k c s check names r takes named refuses
-not_refused words old new k c s check r takes (inr (names, named, inr (d, says, twice, refuses))) =
-    let same = accepted_netlist words old.files k c d s check names takes named says in
-    let of_kind = subst (λ (j : KindName). RefusesSpec old.files names.spec j d r) (same_kind words old.files k c s check names takes named) refuses in
-    spec_not_refused words old.files k c s check names r takes named (subst (λ (x : Circuit). RefusesSpec old.files names.spec k x r) same of_kind)
+not_refused words old new k c s r takes (inl (none, never, is)) = let named = takes.named in absurd (cc)
+not_refused words old new k c s r takes (inr (names, named, inl (once, refuses))) =
+    netlist_not_refused words old.files k c s names r takes named refuses
+not_refused words old new k c s r takes (inr (names, named, inr (d, says, twice, refuses))) =
+    let same = accepted_netlist words old.files k c d s names takes named says in
+    let of_kind = subst (λ (j : KindName). RefusesSpec old.files names.spec j d r) (same_kind words old.files k c s names takes named) refuses in
+    spec_not_refused words old.files k c s names r takes named (subst (λ (x : Circuit). RefusesSpec old.files names.spec k x r) same of_kind)
 
 -- the circuit and the specification that were loaded are those that are taken
-taken_specification : (words : List (List ℕ)) (old new : ShelfSeen) (k : KindName) (c : Circuit) (s t : Specification) (check : Check) → Accepts words old.files k c s check →
+taken_specification : (words : List (List ℕ)) (old new : ShelfSeen) (k : KindName) (c : Circuit) (s t : Specification) → Accepts words old.files k c s →
     IsTaken words old new k c t → t ≡ s
-taken_specification words old new k c s t check takes taken =
-    let says = accepted_spec words old.files k c s check taken.names taken.spec.0 takes taken.named taken.spec.1 in
-    same_Some t s (sym taken.spec.2 ∙ says)
+taken_specification words old new k c s t takes taken =
+    let says = accepted_spec words old.files k c s taken.names taken.spec.0 takes taken.named taken.spec.1 in
+    let both : Ok t ≡ Ok s = sym taken.spec.2 ∙ says in cc
 
--- ---- the answer
+-- ---- the answers
 no_limit : (k : KindName) (c : Circuit) (s : Specification) (check : Check) (verdict : Verdict) → MeetsNoLimit k c s check → IsVerdictOf k c s check verdict → verdict ≡ answer c s check
 no_limit k c s check Equal free is = is
 no_limit k c s check (Different left right at) free (_, _, is) = is
 no_limit k c s check Overflow free is = absurd (let none = free.not_over in cc)
 no_limit k c s check Full free is = absurd (let none = free.not_short in cc)
 
-reported_answer : (k : KindName) (c : Circuit) (s : Specification) (check : Check) (verdict : Verdict) → slice_get s.checks 0 ≡ Some check → MeetsNoLimit k c s check →
-    IsReported k c s 0 verdict → verdict ≡ answer c s check
-reported_answer k c s check verdict is free (other, there, of_other) =
+reported_answer : (k : KindName) (c : Circuit) (s : Specification) (place : ℕ) (check : Check) (verdict : Verdict) → slice_get s.checks place ≡ Some check → MeetsNoLimit k c s check →
+    IsReported k c s place verdict → verdict ≡ answer c s check
+reported_answer k c s place check verdict is free (other, there, of_other) =
     let same = same_Some other check (sym there ∙ is) in
     no_limit k c s check verdict free (subst (λ (x : Check). IsVerdictOf k c s x verdict) same of_other)
 
-verdict_line_of_answer : (words : List (List ℕ)) (old new : ShelfSeen) (k : KindName) (c d : Circuit) (s t : Specification) (check : Check) (verdict : Verdict) (text : List ℕ)
-    (status : Status) → Accepts words old.files k c s check → MeetsNoLimit k c s check → d ≡ c → t ≡ s → IsReported k d t 0 verdict → IsVerdictLine d t verdict text status →
-    IsVerdictLine c s (answer c s check) text status
-verdict_line_of_answer words old new k c d s t check verdict text status takes free circuit spec reported line =
-    let here = subst (λ (x : Specification). IsReported k c x 0 verdict) spec (subst (λ (x : Circuit). IsReported k x t 0 verdict) circuit reported) in
-    let is = reported_answer k c s check verdict takes.check_is free here in
-    subst (λ (v : Verdict). IsVerdictLine c s v text status) is
-    (subst (λ (x : Specification). IsVerdictLine c x verdict text status) spec (subst (λ (x : Circuit). IsVerdictLine x t verdict text status) circuit line))
+answer_all : (k : KindName) (c : Circuit) (s : Specification) (verdicts : List Verdict) → AreReported k c s verdicts → AnswerAll k c s verdicts
+answer_all k c s verdicts reported = λ place check verdict is there free. reported_answer k c s place check verdict is free (reported.each place verdict there)
 
-line_of_answer : (words : List (List ℕ)) (old new : ShelfSeen) (k : KindName) (c : Circuit) (s : Specification) (check : Check) (text : List ℕ) (status : Status) →
-    Accepts words old.files k c s check → MeetsNoLimit k c s check → IsLine words old new text status → IsVerdictLine c s (answer c s check) text status
-line_of_answer words old new k c s check text status takes free (inl (r, refused, line)) = absurd (not_refused words old new k c s check r takes refused)
-line_of_answer words old new k c s check text status takes free (inr (j, d, t, verdict, taken, reported, line)) =
-    let kind = sym taken.kind ∙ same_kind words old.files k c s check taken.names takes taken.named in
-    let circuit = accepted_netlist words old.files k c d s check taken.names takes taken.named taken.netlist in
+-- a text of the specification that is taken is the report of its checks
+accepted_report : (words : List (List ℕ)) (old new : ShelfSeen) (k : KindName) (c : Circuit) (s : Specification) (text : List ℕ) (status : Status) →
+    Accepts words old.files k c s → IsOutput words old new text status →
+    (verdicts : List Verdict) × AreReported k c s verdicts × IsReport c s verdicts text status
+accepted_report words old new k c s text status takes (inl (r, refused, line)) = absurd (not_refused words old new k c s r takes refused)
+accepted_report words old new k c s text status takes (inr (j, d, t, verdicts, taken, reported, report)) =
+    let kind = sym taken.kind ∙ same_kind words old.files k c s taken.names takes taken.named in
+    let circuit = accepted_netlist words old.files k c d s taken.names takes taken.named taken.netlist in
     let of_kind = subst (λ (i : KindName). IsTaken words old new i d t) kind taken in
-    let spec = taken_specification words old new k c s t check takes (subst (λ (x : Circuit). IsTaken words old new k x t) circuit of_kind) in
-    verdict_line_of_answer words old new k c d s t check verdict text status takes free circuit spec (subst (λ (i : KindName). IsReported i d t 0 verdict) kind reported) line
+    let spec = taken_specification words old new k c s t takes (subst (λ (x : Circuit). IsTaken words old new k x t) circuit of_kind) in (
+      verdicts,
+      subst (λ (x : Specification). AreReported k c x verdicts) spec
+      (subst (λ (x : Circuit). AreReported k x t verdicts) circuit (subst (λ (i : KindName). AreReported i d t verdicts) kind reported)),
+      subst (λ (x : Specification). IsReport c x verdicts text status) spec (subst (λ (x : Circuit). IsReport x t verdicts text status) circuit report),
+    )
 
--- ---- the status of a line
-status_is_written : (verdict : Verdict) → is_written (status_of (verdict ∷ [])) ≡ true
-status_is_written Equal = refl
-status_is_written (Different left right at) = refl
-status_is_written Overflow = refl
-status_is_written Full = refl
+-- ---- the status of a text
+if_written : (limited differs : Bool) → is_written (if limited then Limited else (if differs then Differs else Done)) ≡ true
+if_written true differs = refl
+if_written false true = refl
+if_written false false = refl
 
-line_is_written : (words : List (List ℕ)) (old new : ShelfSeen) (text : List ℕ) (status : Status) → IsLine words old new text status → is_written status ≡ true
-line_is_written words old new text status (inl (r, refused, line)) = ap is_written line.status_is
-line_is_written words old new text status (inr (k, c, s, verdict, taken, reported, line)) = ap is_written line.status_is ∙ status_is_written verdict
+output_is_written : (words : List (List ℕ)) (old new : ShelfSeen) (text : List ℕ) (status : Status) → IsOutput words old new text status → is_written status ≡ true
+output_is_written words old new text status (inl (r, refused, line)) = ap is_written line.status_is
+output_is_written words old new text status (inr (k, c, s, verdicts, taken, reported, report)) =
+    ap is_written report.status_is ∙ if_written (list_any is_limit verdicts) (list_any is_different verdicts)
 
 fault_not_written : (status : Status) → is_written status ≡ true → (fault : Status) → is_written fault ≡ false → status ≡ fault → ⊥
 fault_not_written status is fault not same = let both : true ≡ false = sym is ∙ ap is_written same ∙ not in cc
 
-answers_where_written : (c : Circuit) (s : Specification) (check : Check) (old new : Outside) (status : Status) → is_written status ≡ true →
-    WritesAnswer c s check old.sink new.sink status → GivesAnswer c s check old new status
-answers_where_written c s check old new Done is writes = writes
-answers_where_written c s check old new Differs is writes = writes
-answers_where_written c s check old new Refused is writes = writes
-answers_where_written c s check old new Limited is writes = writes
-answers_where_written c s check old new ReadFault is writes = absurd (cc)
-answers_where_written c s check old new WriteFault is writes = absurd (cc)
-answers_where_written c s check old new NoMemory is writes = absurd (cc)
+report_where_written : (k : KindName) (c : Circuit) (s : Specification) (old new : Outside) (status : Status) → is_written status ≡ true →
+    WritesReport k c s old.sink new.sink status → GivesReport k c s old new status
+report_where_written k c s old new Done is writes = writes
+report_where_written k c s old new Differs is writes = writes
+report_where_written k c s old new Refused is writes = writes
+report_where_written k c s old new Limited is writes = writes
+report_where_written k c s old new ReadFault is writes = absurd (cc)
+report_where_written k c s old new WriteFault is writes = absurd (cc)
+report_where_written k c s old new NoMemory is writes = absurd (cc)
+
+gives_report : (words : List (List ℕ)) (old new : Outside) (k : KindName) (c : Circuit) (s : Specification) (text : List ℕ) (status : Status) →
+    Accepts words old.shelf.files k c s → IsOutput words old.shelf new.shelf text status → Appends old.sink.written new.sink.written text → GivesReport k c s old new status
+gives_report words old new k c s text status takes output appended =
+    let (verdicts, reported, report) = accepted_report words old.shelf new.shelf k c s text status takes output in
+    report_where_written k c s old new status (output_is_written words old.shelf new.shelf text status output)
+    (record {
+      verdicts = verdicts;
+      reported = reported;
+      answers = answer_all k c s verdicts reported;
+      text = text;
+      report = report;
+      appended = appended;
+    })
 
 -- ---- runs
-pub line_written : (words : List (List ℕ)) (old new : Outside) (text : List ℕ) (status : Status) → new.shelf.files ≡ old.shelf.files → new.shelf.faults ≡ old.shelf.faults →
-    IsLine words old.shelf new.shelf text status → Appends old.sink.written new.sink.written text → new.sink.faults ≡ old.sink.faults → IsRun words old new status
-line_written words old new text status files read line appended faults =
-    let is = line_is_written words old.shelf new.shelf text status line in
+pub text_written : (words : List (List ℕ)) (old new : Outside) (text : List ℕ) (status : Status) → new.shelf.files ≡ old.shelf.files → new.shelf.faults ≡ old.shelf.faults →
+    IsOutput words old.shelf new.shelf text status → Appends old.sink.written new.sink.written text → new.sink.faults ≡ old.sink.faults → IsRun words old new status
+text_written words old new text status files read output appended faults =
+    let is = output_is_written words old.shelf new.shelf text status output in
     record {
       files = files;
-      written = λ _. record { text = text; line = line; appended = appended };
+      written = λ _. record { text = text; output = output; appended = appended };
       write_fault = λ same. absurd (fault_not_written status is WriteFault refl same);
       read_fault = λ same. absurd (fault_not_written status is ReadFault refl same);
       no_memory = λ same. absurd (fault_not_written status is NoMemory refl same);
@@ -205,31 +220,30 @@ line_written words old new text status files read line appended faults =
         | inl same ↦ absurd (fault_not_written status is ReadFault refl same)
         | inr same ↦ absurd (fault_not_written status is NoMemory refl same)
       ];
-      answered = λ k c s check takes free. answers_where_written c s check old new status is
-          (record { text = text; line = line_of_answer words old.shelf new.shelf k c s check text status takes free line; appended = appended });
+      answered = λ k c s takes. gives_report words old new k c s text status takes output appended;
       absent = λ names named lacks. absurd
-          (not_absent words old.shelf new.shelf names (line_wants words old.shelf new.shelf text status line) named lacks);
+          (not_absent words old.shelf new.shelf names (output_wants words old.shelf new.shelf text status output) named lacks);
     }
 
 rose_of_raised : (before now : ℕ) → now ≡ raised before → Rose before now
 rose_of_raised before now is = subst (λ (n : ℕ). raised before ≤ n) (sym is) (le_refl (raised before))
 
-line_cut : (words : List (List ℕ)) (old new : Outside) (text : List ℕ) (status : Status) → new.shelf.files ≡ old.shelf.files → new.shelf.faults ≡ old.shelf.faults →
-    IsLine words old.shelf new.shelf text status → AppendsPrefix old.sink.written new.sink.written text → new.sink.faults ≡ raised old.sink.faults →
+text_cut : (words : List (List ℕ)) (old new : Outside) (text : List ℕ) (status : Status) → new.shelf.files ≡ old.shelf.files → new.shelf.faults ≡ old.shelf.faults →
+    IsOutput words old.shelf new.shelf text status → AppendsPrefix old.sink.written new.sink.written text → new.sink.faults ≡ raised old.sink.faults →
     IsRun words old new WriteFault
-line_cut words old new text status files read line appended fault =
+text_cut words old new text status files read output appended fault =
     record {
       files = files;
       written = λ is. absurd (cc);
-      write_fault = λ _. record { text = text; status = status; line = line; appended = appended; fault = fault };
+      write_fault = λ _. record { text = text; status = status; output = output; appended = appended; fault = fault };
       read_fault = λ is. absurd (cc);
       no_memory = λ is. absurd (cc);
       no_read_fault = λ _. read;
       no_write_fault = λ is. absurd (is refl);
       nothing = λ either. elim either as (λ _. new.sink.written ≡ old.sink.written) [ inl same ↦ absurd (cc) | inr same ↦ absurd (cc) ];
-      answered = λ k c s check takes free. rose_of_raised old.sink.faults new.sink.faults fault;
+      answered = λ k c s takes. rose_of_raised old.sink.faults new.sink.faults fault;
       absent = λ names named lacks. absurd
-          (not_absent words old.shelf new.shelf names (line_wants words old.shelf new.shelf text status line) named lacks);
+          (not_absent words old.shelf new.shelf names (output_wants words old.shelf new.shelf text status output) named lacks);
     }
 
 pub wanted_memory : (words : List (List ℕ)) (old new : Outside) → new.shelf.files ≡ old.shelf.files → new.shelf.faults ≡ old.shelf.faults →
@@ -244,7 +258,7 @@ wanted_memory words old new files read wants sink =
       no_read_fault = λ _. read;
       no_write_fault = λ _. ap (λ s. s.faults) sink;
       nothing = λ _. ap (λ s. s.written) sink;
-      answered = λ k c s check takes free. tt;
+      answered = λ k c s takes. tt;
       absent = λ names named lacks. absurd (not_absent words old.shelf new.shelf names wants named lacks);
     }
 
@@ -256,13 +270,13 @@ unread_rose old new name text holds (inl is) = rose_of_raised old.faults new.fau
 unread_rose old new name text holds (inr (lacks, same)) = absurd (held_is_there old.files name text holds lacks)
 
 -- where both files are there, the fault was counted
-fault_counted : (words : List (List ℕ)) (old new : ShelfSeen) (k : KindName) (c : Circuit) (s : Specification) (check : Check) → Accepts words old.files k c s check →
+fault_counted : (words : List (List ℕ)) (old new : ShelfSeen) (k : KindName) (c : Circuit) (s : Specification) → Accepts words old.files k c s →
     FailsToRead words old new → Rose old.faults new.faults
-fault_counted words old new k c s check takes (inl (none, never, nothing)) = absurd nothing
-fault_counted words old new k c s check takes (inr (names, named, inl (once, unread))) =
+fault_counted words old new k c s takes (inl (none, never, nothing)) = absurd nothing
+fault_counted words old new k c s takes (inr (names, named, inl (once, unread))) =
     let same = same_names words names takes.names named takes.named in
     unread_rose old new takes.names.netlist takes.netlist_text takes.netlist (subst (λ (n : Names). IsUnread old new n.netlist) same unread)
-fault_counted words old new k c s check takes (inr (names, named, inr (d, says, twice, unread))) =
+fault_counted words old new k c s takes (inr (names, named, inr (d, says, twice, unread))) =
     let same = same_names words names takes.names named takes.named in
     unread_rose old new takes.names.spec takes.spec_text takes.spec (subst (λ (n : Names). IsUnread old new n.spec) same unread)
 
@@ -278,26 +292,17 @@ failed_to_read words old new files fails sink =
       no_read_fault = λ is. absurd (is refl);
       no_write_fault = λ _. ap (λ s. s.faults) sink;
       nothing = λ _. ap (λ s. s.written) sink;
-      answered = λ k c s check takes free. fault_counted words old.shelf new.shelf k c s check takes fails;
+      answered = λ k c s takes. fault_counted words old.shelf new.shelf k c s takes fails;
       absent = λ names named lacks. refl;
     }
 
--- the line of a refusal, and of a check
-pub refusal_is_line : (words : List (List ℕ)) (old new : ShelfSeen) (r : Refusal) (text : List ℕ) (status : Status) → IsRefused words old new r →
-    IsRefusalLine r text status → IsLine words old new text status
-refusal_is_line words old new r text status refused line = inl (r, refused, line)
-
-pub verdict_is_line : (words : List (List ℕ)) (old new : ShelfSeen) (k : KindName) (c : Circuit) (s : Specification) (verdict : Verdict) (text : List ℕ) (status : Status) →
-    IsTaken words old new k c s → IsReported k c s 0 verdict → IsVerdictLine c s verdict text status → IsLine words old new text status
-verdict_is_line words old new k c s verdict text status taken reported line = inr (k, c, s, verdict, taken, reported, line)
-
--- ---- a line that was put out, or was not made
+-- ---- a text that was put out, or was not made
 text_put : (words : List (List ℕ)) (old new : Outside) (text : List ℕ) (status answered : Status) → new.shelf.files ≡ old.shelf.files → new.shelf.faults ≡ old.shelf.faults →
-    IsLine words old.shelf new.shelf text status → PutsText old.sink new.sink text status answered → IsRun words old new answered
-text_put words old new text status answered files read line (inl (is, appended, faults)) =
-    subst (λ (s : Status). IsRun words old new s) (sym is) (line_written words old new text status files read line appended faults)
-text_put words old new text status answered files read line (inr (is, appended, fault)) =
-    subst (λ (s : Status). IsRun words old new s) (sym is) (line_cut words old new text status files read line appended fault)
+    IsOutput words old.shelf new.shelf text status → PutsText old.sink new.sink text status answered → IsRun words old new answered
+text_put words old new text status answered files read output (inl (is, appended, faults)) =
+    subst (λ (s : Status). IsRun words old new s) (sym is) (text_written words old new text status files read output appended faults)
+text_put words old new text status answered files read output (inr (is, appended, fault)) =
+    subst (λ (s : Status). IsRun words old new s) (sym is) (text_cut words old new text status files read output appended fault)
 
 pub refusal_run : {X : Type 0} (text_of : X → List ℕ) (status_of : X → Status) (words : List (List ℕ)) (old new : Outside) (r : Refusal) (made : Result X AllocError) (answered : Status) →
     new.shelf.files ≡ old.shelf.files → new.shelf.faults ≡ old.shelf.faults → IsRefused words old.shelf new.shelf r →
@@ -312,11 +317,11 @@ refusal_run text_of status_of words old new r (Err e) answered files read refuse
 
 pub check_run : {X : Type 0} (text_of : X → List ℕ) (status_of : X → Status) (words : List (List ℕ)) (old new : Outside) (k : KindName) (c : Circuit) (s : Specification) (made : Result X AllocError) (answered : Status) →
     new.shelf.files ≡ old.shelf.files → new.shelf.faults ≡ old.shelf.faults → IsTaken words old.shelf new.shelf k c s →
-    IfOk made (λ o. (verdict : Verdict) × IsReported k c s 0 verdict × IsVerdictLine c s verdict (text_of o) (status_of o)) →
+    IfOk made (λ o. (verdicts : List Verdict) × AreReported k c s verdicts × IsReport c s verdicts (text_of o) (status_of o)) →
     IfOk made (λ o. PutsText old.sink new.sink (text_of o) (status_of o) answered) →
     OnErr made (answered ≡ NoMemory) → OnErr made (new.sink ≡ old.sink) → IsRun words old new answered
-check_run text_of status_of words old new k c s (Ok o) answered files read taken (verdict, reported, line) puts none nothing =
-    text_put words old new (text_of o) (status_of o) answered files read (inr (k, c, s, verdict, taken, reported, line)) puts
+check_run text_of status_of words old new k c s (Ok o) answered files read taken (verdicts, reported, report) puts none nothing =
+    text_put words old new (text_of o) (status_of o) answered files read (inr (k, c, s, verdicts, taken, reported, report)) puts
 check_run text_of status_of words old new k c s (Err e) answered files read taken line puts none nothing =
     subst (λ (x : Status). IsRun words old new x) (sym none)
     (wanted_memory words old new files read (taken_wants words old.shelf new.shelf k c s taken) nothing)

@@ -1,15 +1,18 @@
 -- What the two files say, and why one is refused.
-use Rattle.std.specs.Prelude.{◌≡◌, ◌⊎◌, ℕ, ◌≤◌, List, length, codes, Option, Some, None, Ok, Err, slice_get, if◌then◌else◌, refl}
+use Rattle.std.specs.Prelude.{◌≡◌, ◌⊎◌, ℕ, ◌≤◌, List, length, codes, Option, Some, None, Ok, Err, if◌then◌else◌, refl}
 use Rattle.std.specs.Str.{bytes_eq}
 use Rattle.std.proofs.Common.{inr, lit≤}
 use Rattle.circuits.specs.Circuit.{Circuit}
 use Rattle.circuits.specs.Examples.{half}
-use Rattle.bench_reader.specs.Faults.{fault}
+use Rattle.bench_reader.specs.Faults as netlist_faults
 use Rattle.bench_reader.specs.declared.fault.BenchCause.TheVariants.{Cycle}
-use Rattle.bench_reader.specs.Reading.{reading}
+use Rattle.bench_reader.specs.Reading as bench
 use Rattle.bench_reader.specs.declared.fault.BenchFault.{BenchFault}
-use Rattle.spec_lang.specs.Specification.{Check, Specification, half_adder, half_adder_check}
-use Rattle.first_form.specs.FirstForm.{first_form}
+use Rattle.spec_grammar.specs.Reading as spec
+use Rattle.spec_grammar.specs.Faults.{fault}
+use Rattle.spec_grammar.specs.declared.fault.SpecCause.TheVariants.{UnknownWord}
+use Rattle.spec_grammar.specs.declared.fault.SpecFault.{SpecFault}
+use Rattle.spec_lang.specs.Specification.{Specification, half_adder}
 use Rattle.word_base.specs.declared.kind_name.KindName.{KindName}
 use Rattle.word_base.specs.declared.kind_name.KindName.TheVariants.{Hdd}
 use Rattle.outside.specs.Shelf.{told, Holds, IsLonger, IsWhole}
@@ -26,39 +29,38 @@ pub record IsText (files : Files) (name bytes : List ℕ) : Type 0 where
 
 -- the file says this circuit
 abbrev pub SaysNetlist : Files → List ℕ → Circuit → Type 0
-SaysNetlist files name c = (text : List ℕ) × IsText files name text × (reading text ≡ Ok c)
+SaysNetlist files name c = (text : List ℕ) × IsText files name text × (bench.reading text ≡ Ok c)
 
 -- the file says this specification over the circuit
 abbrev pub SaysSpec : Files → List ℕ → KindName → Circuit → Specification → Type 0
-SaysSpec files name k c s = (text : List ℕ) × IsText files name text × (first_form c k text ≡ Some s)
+SaysSpec files name k c s = (text : List ℕ) × IsText files name text × (spec.reading c k text ≡ Ok s)
 
 -- the netlist's file is refused: it is too long, or has a fault
 abbrev pub RefusesNetlist : Files → List ℕ → Refusal → Type 0
 RefusesNetlist files name refusal =
     (refusal ≡ NetlistTooLong) × IsLonger (told files name) MOST_BYTES
-    ⊎ ((text : List ℕ) × (f : BenchFault) × IsText files name text × (reading text ≡ Err f) × (refusal ≡ Netlist f))
+    ⊎ ((text : List ℕ) × (f : BenchFault) × IsText files name text × (bench.reading text ≡ Err f) × (refusal ≡ Netlist f))
 
--- the specification's file is refused over the circuit: it is too long, or says no specification
+-- the specification's file is refused over the circuit: it is too long, or has a fault
 abbrev pub RefusesSpec : Files → List ℕ → KindName → Circuit → Refusal → Type 0
 RefusesSpec files name k c refusal =
     (refusal ≡ SpecTooLong) × IsLonger (told files name) MOST_BYTES
-    ⊎ ((text : List ℕ) × IsText files name text × (first_form c k text ≡ None) × (refusal ≡ Spec))
+    ⊎ ((text : List ℕ) × (f : SpecFault) × IsText files name text × (spec.reading c k text ≡ Err f) × (refusal ≡ Spec f))
 
 -- The words name a kind and two files, the shelf tells both files, and both are taken: the netlist reads as the circuit, and
--- the specification's text says the specification, with this check
-pub record Accepts (words : List (List ℕ)) (files : Files) (k : KindName) (c : Circuit) (s : Specification) (check : Check) : Type 0 where
+-- the specification's text says the specification
+pub record Accepts (words : List (List ℕ)) (files : Files) (k : KindName) (c : Circuit) (s : Specification) : Type 0 where
   pub names : Names
   pub named : names_of words ≡ Some names
   pub kind : names.kind ≡ k
   pub netlist_text : List ℕ
   pub netlist : Holds files names.netlist netlist_text
   pub netlist_within : length netlist_text ≤ MOST_BYTES
-  pub reads : reading netlist_text ≡ Ok c
+  pub reads : bench.reading netlist_text ≡ Ok c
   pub spec_text : List ℕ
   pub spec : Holds files names.spec spec_text
   pub spec_within : length spec_text ≤ MOST_BYTES
-  pub says : first_form c k spec_text ≡ Some s
-  pub check_is : slice_get s.checks 0 ≡ Some check
+  pub says : spec.reading c k spec_text ≡ Ok s
 
 -- the half adder's two files
 abbrev pub half_text : List ℕ
@@ -75,10 +77,14 @@ two_files netlist spec =
 half-netlist : SaysNetlist (two_files half_text None) (codes "n") half
 half-netlist = (half_text, record { whole = refl; within = lit≤ tt }, refl)
 
-looped-refused : RefusesNetlist (two_files (codes "INPUT(a)\nx = AND(x, a)\n") None) (codes "n") (Netlist (fault 2 Cycle))
-looped-refused = inr (codes "INPUT(a)\nx = AND(x, a)\n", fault 2 Cycle, record { whole = refl; within = lit≤ tt }, refl, refl)
+looped-refused : RefusesNetlist (two_files (codes "INPUT(a)\nx = AND(x, a)\n") None) (codes "n") (Netlist (netlist_faults.fault 2 Cycle))
+looped-refused = inr (codes "INPUT(a)\nx = AND(x, a)\n", netlist_faults.fault 2 Cycle, record { whole = refl; within = lit≤ tt }, refl, refl)
 
-half-accepted : Accepts check_n_s (two_files half_text (Some half_spec)) Hdd half half_adder half_adder_check
+-- a check of a word that no line defines
+wordless_refused : RefusesSpec (two_files half_text (Some (codes "check a == 0\n"))) (codes "s") Hdd half (Spec (fault 1 UnknownWord))
+wordless_refused = inr (codes "check a == 0\n", fault 1 UnknownWord, record { whole = refl; within = lit≤ tt }, refl, refl)
+
+half-accepted : Accepts check_n_s (two_files half_text (Some half_spec)) Hdd half half_adder
 half-accepted = record {
   names = n_and_s;
   named = refl;
@@ -91,5 +97,4 @@ half-accepted = record {
   spec = refl;
   spec_within = lit≤ tt;
   says = refl;
-  check_is = refl;
 }

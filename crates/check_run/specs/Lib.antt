@@ -1,5 +1,5 @@
 -- What `run` promises stands in `Run`. It is read after `Words`, `Outside`, `Files`, `Reading`, `Verdicts` and `Statuses`.
--- `Loading`, `Usual` and `Deciding` serve private functions alone.
+-- `Loading` and `Deciding` serve private functions alone.
 pub mod Words
 pub mod Outside
 pub mod Files
@@ -8,5 +8,4 @@ pub mod Verdicts
 pub mod Statuses
 pub mod Run
 pub mod Loading
-pub mod Usual
 pub mod Deciding

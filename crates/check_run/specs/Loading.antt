@@ -2,6 +2,8 @@
 use Rattle.std.specs.Prelude.{◌≡◌, ◌⊎◌, ℕ, List, Result, Ok, Err}
 use Rattle.std.specs.Io.KnownBytes.{Appends}
 use Rattle.circuits.specs.Circuit.{Circuit}
+use Rattle.spec_grammar.specs.declared.fault.SpecError.{SpecError}
+use Rattle.spec_grammar.specs.declared.fault.SpecError.TheVariants as spec
 use Rattle.spec_lang.specs.Specification.{Specification}
 use Rattle.word_base.specs.declared.kind_name.KindName.{KindName}
 use Rattle.bench_reader.specs.declared.fault.BenchError.{BenchError}
@@ -35,6 +37,11 @@ IsTooLong files name too_long refusal = (refusal ≡ too_long) × IsLonger (told
 abbrev pub stop_of_netlist : BenchError → Stop
 stop_of_netlist (bench.Fault fault) = stop.Refused (refusal.Netlist fault)
 stop_of_netlist bench.Memory = stop.Memory
+
+-- why a specification stops a run that was not read
+abbrev pub stop_of_spec : SpecError → Stop
+stop_of_spec (spec.Fault fault) = stop.Refused (refusal.Spec fault)
+stop_of_spec spec.Memory = stop.Memory
 
 -- The file of this name was asked for: it says what is answered, or it is refused, or it was not read, or memory was wanting
 abbrev pub ComesTo : {X : Type 0} → (X → Type 0) → (Refusal → Type 0) → ShelfSeen → ShelfSeen → List ℕ → Result X Stop → Type 0

@@ -1,5 +1,5 @@
 -- What a run does.
-use Rattle.std.specs.Prelude.{◌≡◌, ◌⊎◌, ℕ, Bool, true, false, List, [], ◌∷◌, ◌++◌, map, Some, IsTrue}
+use Rattle.std.specs.Prelude.{◌≡◌, ◌⊎◌, ℕ, Bool, true, false, List, [], ◌∷◌, ◌++◌, map, slice_get, Some, IsTrue}
 use Rattle.std.specs.Io.KnownBytes.{Appends}
 use Rattle.circuits.specs.Circuit.{Circuit, name_of}
 use Rattle.spec_lang.specs.Specification.{Check, Specification}
@@ -9,7 +9,7 @@ use Rattle.outside.specs.Count.{raised, Rose}
 use Rattle.word_base.specs.declared.kind_name.KindName.{KindName}
 use Rattle.outside.specs.Shelf.{Lacks}
 use Rattle.outside.specs.Sink.{AppendsPrefix}
-use Rattle.report.specs.Lines.{verdict_line}
+use Rattle.report.specs.Lines as lines
 use Rattle.report.specs.Refusals.{refusal_text}
 use Rattle.report.specs.declared.refusal.Refusal.{Refusal}
 use Rattle.check_run.specs.declared.status.Status.{Status}
@@ -18,7 +18,7 @@ use Rattle.check_run.specs.Files.{Accepts}
 use Rattle.check_run.specs.Outside.{Outside, ShelfSeen, SinkSeen}
 use Rattle.check_run.specs.Reading.{FailsToRead, IsRefused, IsTaken, WantsMemory}
 use Rattle.check_run.specs.Statuses.{status_of}
-use Rattle.check_run.specs.Verdicts.{IsReported, MeetsNoLimit}
+use Rattle.check_run.specs.Verdicts.{AreReported, MeetsNoLimit}
 use Rattle.check_run.specs.Words.{Names, names_of}
 
 -- the line of a refusal, and its status
@@ -26,47 +26,55 @@ pub record IsRefusalLine (refusal : Refusal) (text : List ℕ) (status : Status)
   pub text_is : text ≡ refusal_text refusal ++ 10 ∷ []
   pub status_is : status ≡ Refused
 
--- the line of the first check, with this verdict, and its status
-pub record IsVerdictLine (c : Circuit) (s : Specification) (verdict : Verdict) (text : List ℕ) (status : Status) : Type 0 where
-  pub text_is : text ≡ verdict_line 1 (map (name_of c) s.order) verdict
-  pub status_is : status ≡ status_of (verdict ∷ [])
+-- the lines of all checks, with these verdicts, and their status
+pub record IsReport (c : Circuit) (s : Specification) (verdicts : List Verdict) (text : List ℕ) (status : Status) : Type 0 where
+  pub text_is : text ≡ lines.report (map (name_of c) s.order) verdicts
+  pub status_is : status ≡ status_of verdicts
 
--- The line that a run has to write, and the status that goes with it: the words or a file are refused, or both files are
--- taken and the verdict has its cause
-abbrev pub IsLine : List (List ℕ) → ShelfSeen → ShelfSeen → List ℕ → Status → Type 0
-IsLine words old new text status =
+-- The text that a run has to write, and the status that goes with it: the words or a file are refused, or both files are
+-- taken and each check's verdict has its cause
+abbrev pub IsOutput : List (List ℕ) → ShelfSeen → ShelfSeen → List ℕ → Status → Type 0
+IsOutput words old new text status =
     ((refusal : Refusal) × IsRefused words old new refusal × IsRefusalLine refusal text status)
-    ⊎ ((k : KindName) × (c : Circuit) × (s : Specification) × (verdict : Verdict)
-    × IsTaken words old new k c s × IsReported k c s 0 verdict × IsVerdictLine c s verdict text status)
+    ⊎ ((k : KindName) × (c : Circuit) × (s : Specification) × (verdicts : List Verdict)
+    × IsTaken words old new k c s × AreReported k c s verdicts × IsReport c s verdicts text status)
 
--- the line was written whole
-pub record WritesLine (words : List (List ℕ)) (old new : Outside) (status : Status) : Type 0 where
+-- the text was written whole
+pub record WritesAll (words : List (List ℕ)) (old new : Outside) (status : Status) : Type 0 where
   pub text : List ℕ
-  pub line : IsLine words old.shelf new.shelf text status
+  pub output : IsOutput words old.shelf new.shelf text status
   pub appended : Appends old.sink.written new.sink.written text
 
--- a part of the line, from its beginning, was written, and a fault of the sink was counted
+-- a part of the text, from its beginning, was written, and a fault of the sink was counted
 pub record WritesPart (words : List (List ℕ)) (old new : Outside) : Type 0 where
   pub text : List ℕ
   pub status : Status
-  pub line : IsLine words old.shelf new.shelf text status
+  pub output : IsOutput words old.shelf new.shelf text status
   pub appended : AppendsPrefix old.sink.written new.sink.written text
   pub fault : new.sink.faults ≡ raised old.sink.faults
 
--- the line of the answer was written
-pub record WritesAnswer (c : Circuit) (s : Specification) (check : Check) (old new : SinkSeen) (status : Status) : Type 0 where
+-- the verdict of each check in which no limit has its cause is its answer
+abbrev pub AnswerAll : KindName → Circuit → Specification → List Verdict → Type 0
+AnswerAll k c s verdicts = (place : ℕ) (check : Check) (verdict : Verdict) → slice_get s.checks place ≡ Some check →
+    slice_get verdicts place ≡ Some verdict → MeetsNoLimit k c s check → verdict ≡ answer c s check
+
+-- a line was written for each check: its answer, or the limit that has its cause in it
+pub record WritesReport (k : KindName) (c : Circuit) (s : Specification) (old new : SinkSeen) (status : Status) : Type 0 where
+  pub verdicts : List Verdict
+  pub reported : AreReported k c s verdicts
+  pub answers : AnswerAll k c s verdicts
   pub text : List ℕ
-  pub line : IsVerdictLine c s (answer c s check) text status
+  pub report : IsReport c s verdicts text status
   pub appended : Appends old.written new.written text
 
--- the line of the answer was written, or a fault was counted, or memory was wanting
-abbrev pub GivesAnswer : Circuit → Specification → Check → Outside → Outside → Status → Type 0
-GivesAnswer c s check old new ReadFault = Rose old.shelf.faults new.shelf.faults
-GivesAnswer c s check old new WriteFault = Rose old.sink.faults new.sink.faults
-GivesAnswer c s check old new NoMemory = Unit {0}
-GivesAnswer c s check old new status = WritesAnswer c s check old.sink new.sink status
+-- the report was written, or a fault was counted, or memory was wanting
+abbrev pub GivesReport : KindName → Circuit → Specification → Outside → Outside → Status → Type 0
+GivesReport k c s old new ReadFault = Rose old.shelf.faults new.shelf.faults
+GivesReport k c s old new WriteFault = Rose old.sink.faults new.sink.faults
+GivesReport k c s old new NoMemory = Unit {0}
+GivesReport k c s old new status = WritesReport k c s old.sink new.sink status
 
--- a line was written whole
+-- a text was written whole
 abbrev pub is_written : Status → Bool
 is_written ReadFault = false
 is_written WriteFault = false
@@ -78,7 +86,7 @@ pub record IsRun (words : List (List ℕ)) (old new : Outside) (status : Status)
   -- the files stay
   pub files : new.shelf.files ≡ old.shelf.files
   -- what happened, at each status
-  pub written : IsTrue (is_written status) → WritesLine words old new status
+  pub written : IsTrue (is_written status) → WritesAll words old new status
   pub write_fault : status ≡ WriteFault → WritesPart words old new
   pub read_fault : status ≡ ReadFault → FailsToRead words old.shelf new.shelf
   pub no_memory : status ≡ NoMemory → WantsMemory words old.shelf new.shelf
@@ -86,8 +94,7 @@ pub record IsRun (words : List (List ℕ)) (old new : Outside) (status : Status)
   pub no_read_fault : (status ≡ ReadFault → ⊥) → new.shelf.faults ≡ old.shelf.faults
   pub no_write_fault : (status ≡ WriteFault → ⊥) → new.sink.faults ≡ old.sink.faults
   pub nothing : (status ≡ ReadFault) ⊎ (status ≡ NoMemory) → new.sink.written ≡ old.sink.written
-  -- where both files are taken and no limit has its cause, the answer is written
-  pub answered : (k : KindName) (c : Circuit) (s : Specification) (check : Check) →
-      Accepts words old.shelf.files k c s check → MeetsNoLimit k c s check → GivesAnswer c s check old new status
+  -- where both files are taken, all checks are answered
+  pub answered : (k : KindName) (c : Circuit) (s : Specification) → Accepts words old.shelf.files k c s → GivesReport k c s old new status
   -- a netlist's file that is told to be absent is a fault of reading
   pub absent : (names : Names) → names_of words ≡ Some names → Lacks old.shelf.files names.netlist → status ≡ ReadFault

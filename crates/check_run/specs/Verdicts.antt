@@ -1,11 +1,11 @@
 -- What is answered to a check.
-use Rattle.std.specs.Prelude.{◌≡◌, ℕ, pos, true, false, [], ◌∷◌, codes, Some, slice_get, refl}
+use Rattle.std.specs.Prelude.{◌≡◌, ℕ, pos, true, false, [], ◌∷◌, List, codes, length, Some, slice_get, refl}
 use Rattle.std.proofs.Common.{lit≤}
 use Rattle.circuits.specs.Circuit.{Circuit}
 use Rattle.circuits.specs.Examples.{half}
 use Rattle.spec_lang.specs.Formula.{number, word, sum}
-use Rattle.spec_lang.specs.Specification.{Check, Specification, half_adder, half_adder_check}
-use Rattle.first_form.specs.FirstForm.{with_usual}
+use Rattle.spec_lang.specs.Specification.{Check, Specification, half_adder, half_adder_check, specification, Word}
+use Rattle.word_base.specs.declared.decomp.Decomp.TheVariants.{P}
 use Rattle.word_base.specs.declared.kind_name.KindName.{KindName}
 use Rattle.word_base.specs.declared.kind_name.KindName.TheVariants.{Hdd}
 use Rattle.word_base.specs.Range.{InRange}
@@ -30,6 +30,11 @@ abbrev pub IsReported : KindName → Circuit → Specification → ℕ → Verdi
 IsReported k c s place verdict =
     (check : Check) × (slice_get s.checks place ≡ Some check) × IsVerdictOf k c s check verdict
 
+-- one verdict for each check, in their order
+pub record AreReported (k : KindName) (c : Circuit) (s : Specification) (verdicts : List Verdict) : Type 0 where
+  pub one_each : length verdicts ≡ length s.checks
+  pub each : (place : ℕ) (verdict : Verdict) → slice_get verdicts place ≡ Some verdict → IsReported k c s place verdict
+
 -- no limit has its cause in the check
 pub record MeetsNoLimit (k : KindName) (c : Circuit) (s : Specification) (check : Check) : Type 0 where
   pub not_over : over k Forward c s check ≡ false
@@ -45,7 +50,11 @@ half-is_equal = (half_adder_check, refl, refl)
 abbrev carry_once : Check
 carry_once = record { left = sum (word 2) (word 3); right = sum (word 0) (word 1) }
 
-once-differs : IsVerdictOf Hdd half (with_usual half Hdd half_adder.words carry_once) carry_once (Different (pos 1) (pos 2) (true ∷ true ∷ []))
+-- two inputs with their usual letters
+abbrev of_two : List Word → Check → Specification
+of_two words check = specification (0 ∷ 1 ∷ []) (P ∷ P ∷ []) words (check ∷ [])
+
+once-differs : IsVerdictOf Hdd half (of_two half_adder.words carry_once) carry_once (Different (pos 1) (pos 2) (true ∷ true ∷ []))
 once-differs = (lit≤ tt, lit≤ tt, refl)
 
 -- a sum that is no weight, over two inputs
@@ -55,5 +64,5 @@ pair = record { inputs = codes "a" ∷ codes "b" ∷ []; gates = []; outputs = [
 abbrev too_great : Check
 too_great = record { left = sum (number (pos 170141183460469231731687303715884105727)) (number (pos 1)); right = number (pos 1) }
 
-great-is_over : IsVerdictOf Hdd pair (with_usual pair Hdd [] too_great) too_great Overflow
+great-is_over : IsVerdictOf Hdd pair (of_two [] too_great) too_great Overflow
 great-is_over = refl

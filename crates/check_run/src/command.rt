@@ -1,24 +1,23 @@
-ghost use Rattle.std.specs.Prelude.{◌≡◌, IfOk, OnErr, string_bytes};
+ghost use Rattle.std.specs.Prelude.{◌≡◌, IfOk, List, OnErr, string_bytes};
 ghost use Rattle.check_run.specs.Loading.{PutsText};
 ghost use Rattle.check_run.specs.Outside.{seen, shelf_seen, sink_seen, texts};
-ghost use Rattle.check_run.specs.Run.{IsRefusalLine, IsRun, IsVerdictLine};
-ghost use Rattle.check_run.specs.Usual.{IsUsual};
-ghost use Rattle.check_run.specs.Verdicts.{IsReported};
+ghost use Rattle.check_run.specs.Run.{IsRefusalLine, IsReport, IsRun};
+ghost use Rattle.check_run.specs.Verdicts.{AreReported};
 ghost use Rattle.checks.specs.declared.verdict.Verdict.{Verdict};
-ghost use Rattle.spec_lang.specs.WellFormed.{IsOver};
+ghost use Rattle.spec_grammar.specs.ReadFor.{IsReadFor};
 
-use crate::decide::decide;
+use crate::decide::decide_all;
 use crate::load::load;
 use crate::status::{Status, status_of};
 use crate::stop::Stop;
 use netlist::Netlist;
 use outside::{Gate, PutFailed, Shelf, Sink};
-use report::{Refusal, line, refusal_line};
+use report::{Refusal, refusal_line, verdict_lines};
 use spec_lang::Spec;
 use std::alloc::{AllocError, Global};
 use word_base::KindName;
 
-/// A line to write, and the status that goes with it.
+/// A text to write, and the status that goes with it.
 #[derive(Drop)]
 struct Outcome {
     text: String,
@@ -35,26 +34,25 @@ fn refused(alloc: Global, refusal: &Refusal) -> Result<Outcome, AllocError>
     Ok(Outcome { text, status })
 }
 
-/// The line of the check.
+/// The lines of all checks.
 fn checked(
     alloc: Global,
     kind: KindName,
     netlist: &Netlist,
     spec: &Spec,
 ) -> Result<Outcome, AllocError>
-    requires over { IsOver netlist.now spec.now }
-    requires usual { IsUsual kind spec.now }
-    ensures { IfOk result (λ outcome. (verdict : Verdict)
-        × IsReported kind netlist.now spec.now 0 verdict
-        × IsVerdictLine netlist.now spec.now verdict (string_bytes outcome.text) outcome.status) }
+    requires { IsReadFor netlist.now kind spec.now }
+    ensures { IfOk result (λ outcome. (verdicts : List Verdict)
+        × AreReported kind netlist.now spec.now verdicts
+        × IsReport netlist.now spec.now verdicts (string_bytes outcome.text) outcome.status) }
 {
-    let verdict = decide(alloc, kind, netlist, spec, 0)?;
-    let text = line(alloc, 1, netlist, spec.order(), &verdict)?;
-    let status = status_of(&verdict);
+    let verdicts = decide_all(alloc, kind, netlist, spec)?;
+    let text = verdict_lines(alloc, netlist, spec.order(), &verdicts)?;
+    let status = status_of(&verdicts);
     Ok(Outcome { text, status })
 }
 
-/// Puts out a line, where it was made.
+/// Puts out a text, where it was made.
 fn put<O: Sink>(out: &mut O, outcome: Result<Outcome, AllocError>) -> Status
     ensures put { IfOk outcome (λ o. PutsText (sink_seen O.written O.faults out.old)
         (sink_seen O.written O.faults out.new) (string_bytes o.text) o.status result) }
@@ -71,8 +69,8 @@ fn put<O: Sink>(out: &mut O, outcome: Result<Outcome, AllocError>) -> Status
     }
 }
 
-/// Runs a command, without the program's name: decides the check of a specification's file over a netlist's
-/// file, and puts out one line. The gate is for runs of several workers.
+/// Runs a command, without the program's name: decides all checks of a specification's file over a netlist's
+/// file, also after one that met a limit, and puts out a line for each. The gate is for runs of several workers.
 pub fn run<F: Shelf, O: Sink, G: Gate>(
     alloc: Global,
     words: &[&str],

@@ -1,9 +1,10 @@
 ghost use Rattle.std.specs.Prelude.{◌≡◌, ◌<◌, ◌≤◌, length, true, IfOk};
 ghost use Rattle.builder.specs.View.{View};
 ghost use Rattle.check_run.specs.Deciding.{verdict_at, verdict_of_limit, HasBuilt};
-ghost use Rattle.check_run.specs.Verdicts.{IsReported};
+ghost use Rattle.check_run.specs.Verdicts.{AreReported, IsReported};
 ghost use Rattle.cone_builder.specs.Sides.{AreSides};
 ghost use Rattle.kinds.specs.Plain.{plain};
+ghost use Rattle.spec_grammar.specs.ReadFor.{IsReadFor};
 ghost use Rattle.spec_lang.specs.WellFormed.{IsOver};
 ghost use Rattle.tables.specs.Laws.{are_allowed};
 
@@ -127,7 +128,7 @@ fn decide_by<K: Kind>(
 }
 
 /// What is answered to a check, by diagrams of the kind of this name.
-pub(crate) fn decide(
+fn decide(
     alloc: Global,
     kind: KindName,
     netlist: &Netlist,
@@ -145,4 +146,22 @@ pub(crate) fn decide(
         KindName::Hdd => decide_by::<Hdd>(alloc, netlist, spec, check),
         KindName::KStarBmd => decide_by::<KStarBmd>(alloc, netlist, spec, check),
     }
+}
+
+/// What is answered to each check, by diagrams of the kind of this name. Each check has a builder and a store of its
+/// own.
+pub(crate) fn decide_all(
+    alloc: Global,
+    kind: KindName,
+    netlist: &Netlist,
+    spec: &Spec,
+) -> Result<Vec<Verdict>, AllocError>
+    requires { IsReadFor netlist.now kind spec.now }
+    ensures { IfOk result (λ verdicts. AreReported kind netlist.now spec.now verdicts.items) }
+{
+    let mut verdicts = Vec::new(alloc);
+    for check in 0..spec.checks() {
+        verdicts.push(decide(alloc, kind, netlist, spec, check)?)?;
+    }
+    Ok(verdicts)
 }

@@ -2,9 +2,8 @@ ghost use Rattle.std.specs.Prelude.{◌≡◌, IfOk};
 ghost use Rattle.check_run.specs.Files.{IsText, RefusesNetlist, RefusesSpec, SaysNetlist, SaysSpec};
 ghost use Rattle.check_run.specs.Loading.{ComesTo, IsTooLong, Loads};
 ghost use Rattle.check_run.specs.Outside.{shelf_seen, texts};
-ghost use Rattle.check_run.specs.Usual.{IsUsual};
 ghost use Rattle.outside.specs.Count.{raised};
-ghost use Rattle.spec_lang.specs.WellFormed.{IsOver};
+ghost use Rattle.spec_grammar.specs.ReadFor.{IsReadFor};
 
 use crate::stop::Stop;
 use crate::words::names_in;
@@ -50,7 +49,7 @@ fn load_netlist<F: Shelf>(alloc: Global, shelf: &mut F, name: &str) -> Result<Ne
     Ok(bench_reader::read(alloc, &bytes)?)
 }
 
-/// The specification that the file of a name says over a netlist, with the usual letters of a kind.
+/// The specification that the file of a name says over a netlist, for a kind of diagram.
 fn load_spec<F: Shelf>(
     alloc: Global,
     shelf: &mut F,
@@ -64,14 +63,10 @@ fn load_spec<F: Shelf>(
         (RefusesSpec (F.files shelf.old) name.now kind netlist.now)
         (shelf_seen F.files F.fetches F.faults shelf.old)
         (shelf_seen F.files F.fetches F.faults shelf.new) name.now result }
-    ensures over { IfOk result (λ spec. IsOver netlist.now spec) }
-    ensures usual { IfOk result (λ spec. IsUsual kind spec) }
+    ensures read_for { IfOk result (λ spec. IsReadFor netlist.now kind spec) }
 {
     let bytes = fetch(alloc, shelf, name, Refusal::SpecTooLong)?;
-    match first_form::read::read(alloc, &bytes, netlist, kind)? {
-        Some(spec) => Ok(spec),
-        None => Err(Stop::Refused(Refusal::Spec)),
-    }
+    Ok(spec_reader::read(alloc, &bytes, netlist, kind)?)
 }
 
 /// The kind, the netlist and the specification that the words name.
@@ -84,8 +79,7 @@ pub(crate) fn load<F: Shelf>(
     ensures loads { Loads (texts words.now)
         (shelf_seen F.files F.fetches F.faults shelf.old)
         (shelf_seen F.files F.fetches F.faults shelf.new) result }
-    ensures over { IfOk result (λ all. IsOver all.1 all.2) }
-    ensures usual { IfOk result (λ all. IsUsual all.0 all.2) }
+    ensures read_for { IfOk result (λ all. IsReadFor all.1 all.0 all.2) }
 {
     let Some(names) = names_in(words) else {
         return Err(Stop::Refused(Refusal::Words));

@@ -1,5 +1,5 @@
-ghost use Rattle.std.specs.Prelude.{◌≡◌, [], ◌∷◌};
-ghost use Rattle.check_run.specs.Statuses.{status_number, status_of};
+ghost use Rattle.std.specs.Prelude.{◌≡◌};
+ghost use Rattle.check_run.specs.Statuses.{is_different, is_limit, status_number, status_of};
 
 use checks::Verdict;
 
@@ -39,13 +39,33 @@ impl Status {
     }
 }
 
-/// The status of a run that wrote the line of a verdict.
-pub(crate) fn status_of(verdict: &Verdict) -> Status
-    ensures { result ≡ status_of (verdict.now ∷ []) }
+fn is_limit(verdict: &Verdict) -> bool
+    ensures { result ≡ is_limit verdict.now }
 {
     match verdict {
-        Verdict::Equal => Status::Done,
-        Verdict::Different { .. } => Status::Differs,
-        Verdict::Overflow | Verdict::Full => Status::Limited,
+        Verdict::Overflow | Verdict::Full => true,
+        Verdict::Equal | Verdict::Different { .. } => false,
     }
+}
+
+fn is_different(verdict: &Verdict) -> bool
+    ensures { result ≡ is_different verdict.now }
+{
+    match verdict {
+        Verdict::Different { .. } => true,
+        Verdict::Equal | Verdict::Overflow | Verdict::Full => false,
+    }
+}
+
+/// The status of a run that wrote the line of each verdict.
+pub(crate) fn status_of(verdicts: &[Verdict]) -> Status
+    ensures { result ≡ status_of verdicts.now }
+{
+    if verdicts.iter().any(|verdict| is_limit(verdict)) {
+        return Status::Limited;
+    }
+    if verdicts.iter().any(|verdict| is_different(verdict)) {
+        return Status::Differs;
+    }
+    Status::Done
 }

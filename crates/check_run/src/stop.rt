@@ -3,7 +3,7 @@ ghost use Rattle.std.specs.Prelude.{◌≡◌};
 use bench_reader::BenchError;
 use outside::FetchError;
 use report::Refusal;
-use std::alloc::AllocError;
+use spec_grammar::SpecError;
 
 /// Why nothing is decided.
 #[derive(Debug, Drop)]
@@ -44,12 +44,15 @@ impl From<BenchError> for Stop {
     }
 }
 
-impl From<AllocError> for Stop {
-    ghost use Rattle.check_run.specs.declared.stop.Stop.TheVariants.{Memory};
+impl From<SpecError> for Stop {
+    ghost use Rattle.check_run.specs.Loading.{stop_of_spec};
 
-    ghost from_gives = { λ _ stop. stop ≡ Memory };
+    ghost from_gives = { λ error stop. stop ≡ stop_of_spec error };
 
-    fn from(_: AllocError) -> Stop {
-        Stop::Memory
+    fn from(error: SpecError) -> Stop {
+        match error {
+            SpecError::Fault(fault) => Stop::Refused(Refusal::Spec(fault)),
+            SpecError::Memory => Stop::Memory,
+        }
     }
 }

@@ -7,8 +7,10 @@ use super::*;
 use builder::{Builder, Limit};
 use evbdd::Evbdd;
 use hdd::Hdd;
+use k_star_bmd::KStarBmd;
 use kinds::{Edge, Kind};
 use record_store::SoloStore;
+use star_bmd::StarBmd;
 use std::alloc::Global;
 use std::process::Abort;
 use std::test::Fail;
@@ -224,6 +226,15 @@ fn check_rows<K: Kind>(
     builder: &mut Builder<K, SoloStore>,
 ) -> Result<(), Fail> {
     check(rt, alloc, builder, 0, &[XY], &[], &[true, true, false])?;
+    check(
+        rt,
+        alloc,
+        builder,
+        0,
+        &[X, Y, XY],
+        &[X, Y],
+        &[true, true, false],
+    )?;
     check(rt, alloc, builder, 0, &[X, Y], &[Y], &[true, false, false])?;
     check(rt, alloc, builder, 0, &[Y], &[], &[false, true, false])?;
     check(
@@ -251,22 +262,26 @@ fn check_rows<K: Kind>(
     check(rt, alloc, builder, 3, &[ONE], &[], &[])
 }
 
+fn check_rows_at<K: Kind>(
+    rt: &impl Abort,
+    alloc: Global,
+    letters: &[Decomp; 3],
+) -> Result<(), Fail>
+    requires { are_allowed K.NAME letters.now ≡ true }
+{
+    let mut builder = three_levels::<K>(alloc, letters, 1000)?;
+    check_rows(rt, alloc, &mut builder)
+}
+
 #[test]
 fn first_differences_by_hand(rt: HostRuntime) -> Result<(), Fail> {
     for letter in [Decomp::S, Decomp::P, Decomp::N] {
         let letters = [letter, letter, letter];
-        check_rows(
-            &rt,
-            rt.alloc(),
-            &mut three_levels::<Hdd>(rt.alloc(), &letters, 1000)?,
-        )?;
+        check_rows_at::<Hdd>(&rt, rt.alloc(), &letters)?;
+        check_rows_at::<KStarBmd>(&rt, rt.alloc(), &letters)?;
     }
-    let shannon = [Decomp::S, Decomp::S, Decomp::S];
-    check_rows(
-        &rt,
-        rt.alloc(),
-        &mut three_levels::<Evbdd>(rt.alloc(), &shannon, 1000)?,
-    )
+    check_rows_at::<Evbdd>(&rt, rt.alloc(), &[Decomp::S, Decomp::S, Decomp::S])?;
+    check_rows_at::<StarBmd>(&rt, rt.alloc(), &[Decomp::P, Decomp::P, Decomp::P])
 }
 
 /// The next number of a sequence that looks random.
@@ -342,19 +357,33 @@ fn check_random<K: Kind>(
     Ok(())
 }
 
+fn check_random_at<K: Kind>(
+    rt: &impl Abort,
+    alloc: Global,
+    letters: &[Decomp; 3],
+    seed: u64,
+) -> Result<(), Fail>
+    requires { are_allowed K.NAME letters.now ≡ true }
+{
+    let mut builder = three_levels::<K>(alloc, letters, 1000)?;
+    check_random(rt, alloc, &mut builder, seed)
+}
+
 #[test]
 fn random_walks_end_where_a_search_does(rt: HostRuntime) -> Result<(), Fail> {
+    let alloc = rt.alloc();
     for letter in [Decomp::S, Decomp::P, Decomp::N] {
         let letters = [letter, letter, letter];
-        let mut hybrid = three_levels::<Hdd>(rt.alloc(), &letters, 1000)?;
-        check_random(&rt, rt.alloc(), &mut hybrid, 88_172_645_463_325_252)?;
+        check_random_at::<Hdd>(&rt, alloc, &letters, 88_172_645_463_325_252)?;
+        check_random_at::<KStarBmd>(&rt, alloc, &letters, 88_172_645_463_325_252)?;
     }
     let mixed = [Decomp::N, Decomp::S, Decomp::P];
-    let mut hybrid = three_levels::<Hdd>(rt.alloc(), &mixed, 1000)?;
-    check_random(&rt, rt.alloc(), &mut hybrid, 1_234_567_891_011)?;
+    check_random_at::<Hdd>(&rt, alloc, &mixed, 1_234_567_891_011)?;
+    check_random_at::<KStarBmd>(&rt, alloc, &mixed, 1_234_567_891_011)?;
     let shannon = [Decomp::S, Decomp::S, Decomp::S];
-    let mut shannon = three_levels::<Evbdd>(rt.alloc(), &shannon, 1000)?;
-    check_random(&rt, rt.alloc(), &mut shannon, 5_172_645_463_325_252)
+    check_random_at::<Evbdd>(&rt, alloc, &shannon, 5_172_645_463_325_252)?;
+    let positive = [Decomp::P, Decomp::P, Decomp::P];
+    check_random_at::<StarBmd>(&rt, alloc, &positive, 5_172_645_463_325_252)
 }
 
 /// The edge, times a product.

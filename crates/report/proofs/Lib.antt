@@ -1,1 +1,2 @@
 mod Assignments
+mod Reports

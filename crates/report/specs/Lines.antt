@@ -1,5 +1,5 @@
 -- The lines of checks.
-use Rattle.std.specs.Prelude.{◌≡◌, ℕ, pos, negsuc, Bool, true, false, List, [], ◌∷◌, ◌++◌, codes, decimal, if◌then◌else◌, refl}
+use Rattle.std.specs.Prelude.{◌≡◌, ℕ, ◌+◌, pos, negsuc, Bool, true, false, List, [], ◌∷◌, ◌++◌, codes, decimal, if◌then◌else◌, refl}
 use Rattle.std.specs.Fmt.{digits, signed_decimal}
 use Rattle.std.specs.List.{zip, flat_map}
 use Rattle.checks.specs.declared.verdict.Verdict.{Verdict}
@@ -23,6 +23,15 @@ verdict_text names Full = codes "full"
 -- the line of a check, which is counted from 1
 abbrev pub verdict_line : ℕ → List (List ℕ) → Verdict → List ℕ
 verdict_line k names verdict = codes "check " ++ decimal k ++ codes " " ++ verdict_text names verdict ++ 10 ∷ []
+
+-- the lines of checks, whose first has this number
+abbrev pub lines_from : ℕ → List (List ℕ) → List Verdict → List ℕ
+lines_from k names [] = []
+lines_from k names (verdict ∷ more) = verdict_line k names verdict ++ lines_from (k + 1) names more
+
+-- the lines of all checks
+abbrev pub report : List (List ℕ) → List Verdict → List ℕ
+report names verdicts = lines_from 1 names verdicts
 
 equal_sides : verdict_line 1 (codes "a" ∷ []) Equal ≡ codes "check 1 equal" ++ 10 ∷ []
 unfolding digits
@@ -51,3 +60,8 @@ over_range = refl
 short_of_cells : verdict_line 1 [] Full ≡ codes "check 1 full" ++ 10 ∷ []
 unfolding digits
 short_of_cells = refl
+
+two_checks : report (codes "a" ∷ []) (Equal ∷ Different (pos 0) (pos 1) (true ∷ []) ∷ [])
+    ≡ codes "check 1 equal" ++ 10 ∷ codes "check 2 different left 0 right 1 at a=1" ++ 10 ∷ []
+unfolding digits
+two_checks = refl

@@ -1,6 +1,6 @@
 //! The lines that a run writes.
 //!
-//! - `line` is the line of a check, which says its `Verdict` (of `checks`);
+//! - `verdict_lines` are the lines of all checks, each of which says a `Verdict` (of `checks`);
 //! - `Refusal` is why a run takes nothing, and `refusal_line` its line.
 //!
 //! The texts are defined in `specs/`: `Lines` (of checks) and `Refusals`.
@@ -11,5 +11,5 @@ mod refusal;
 #[cfg(test)]
 mod tests;
 
-pub use lines::line;
+pub use lines::verdict_lines;
 pub use refusal::{Refusal, refusal_line};

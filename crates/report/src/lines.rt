@@ -1,32 +1,49 @@
 ghost use Rattle.std.specs.Prelude.{◌≡◌, ◌<◌, ◌++◌, map, codes, length, All, IfOk, OnOk, string_bytes};
 ghost use Rattle.std.specs.Fmt.{signed_decimal};
 ghost use Rattle.circuits.specs.Circuit.{net_count, name_of};
-ghost use Rattle.report.specs.Lines.{assignment, digit, verdict_line, verdict_text};
+ghost use Rattle.report.specs.Lines.{assignment, digit, report, verdict_line, verdict_text};
 
 use checks::Verdict;
 use netlist::Netlist;
 use std::alloc::{AllocError, Global};
 use word_base::{Assign, Weight};
 
-/// The line of a check, which is counted from 1: its number, what is answered and, where the sides differ, the
+/// The line of each check, which are counted from 1: its number, what is answered and, where the sides differ, the
 /// bit of each input of `order` by name. `order` has the inputs from the top level down.
 ///
 /// `Err` is want of memory.
-pub fn line(
+pub fn verdict_lines(
     alloc: Global,
-    number: u32,
     netlist: &Netlist,
     order: &[u32],
-    verdict: &Verdict,
+    verdicts: &[Verdict],
 ) -> Result<String, AllocError>
     requires { All (λ net. net < net_count netlist.now) order.now }
     ensures { IfOk result (λ text. string_bytes text
-        ≡ verdict_line number (map (name_of netlist.now) order.now) verdict.now) }
+        ≡ report (map (name_of netlist.now) order.now) verdicts.now) }
 {
-    let mut text = format!(in alloc; "check {number} ")?;
-    push_verdict(&mut text, netlist, order, verdict)?;
-    text.push('\n')?;
+    let mut text = String::new(alloc);
+    for place in 0..verdicts.len() {
+        push_line(&mut text, place + 1, netlist, order, &verdicts[place])?;
+    }
     Ok(text)
+}
+
+/// Appends the line of a check.
+fn push_line(
+    text: &mut String,
+    number: usize,
+    netlist: &Netlist,
+    order: &[u32],
+    verdict: &Verdict,
+) -> Result<(), AllocError>
+    requires { All (λ net. net < net_count netlist.now) order.now }
+    ensures { OnOk result (string_bytes text.new ≡ string_bytes text.old
+        ++ verdict_line number (map (name_of netlist.now) order.now) verdict.now) }
+{
+    write!(text, "check {number} ")?;
+    push_verdict(text, netlist, order, verdict)?;
+    text.push('\n')
 }
 
 /// Appends what is said of a check.

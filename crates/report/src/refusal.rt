@@ -2,6 +2,7 @@ ghost use Rattle.std.specs.Prelude.{◌≡◌, [], ◌∷◌, ◌++◌, Some, If
 ghost use Rattle.report.specs.Refusals.{refusal_text};
 
 use bench_reader::BenchFault;
+use spec_grammar::SpecFault;
 use std::alloc::{AllocError, Global};
 use std::error::Error;
 use std::fmt;
@@ -17,8 +18,8 @@ pub enum Refusal {
     Netlist(BenchFault),
     /// The specification file is above the limit.
     SpecTooLong,
-    /// The specification has a form that is not taken yet.
-    Spec,
+    /// The first fault of the specification.
+    Spec(SpecFault),
 }
 
 impl fmt::Display for Refusal {
@@ -30,7 +31,7 @@ impl fmt::Display for Refusal {
             Refusal::NetlistTooLong => write!(f, "refused netlist too-long"),
             Refusal::Netlist(fault) => write!(f, "refused netlist {fault}"),
             Refusal::SpecTooLong => write!(f, "refused spec too-long"),
-            Refusal::Spec => write!(f, "refused spec unbuilt"),
+            Refusal::Spec(fault) => write!(f, "refused spec {fault}"),
         }
     }
 }

@@ -2,6 +2,7 @@ use super::*;
 use bench_reader::{BenchCause, BenchFault, read};
 use checks::Verdict;
 use netlist::Netlist;
+use spec_grammar::{SpecCause, SpecFault};
 use std::alloc::{AllocError, Global};
 use std::process::Abort;
 use std::test::Fail;
@@ -25,15 +26,20 @@ fn different(left: i128, right: i128, at: Assign) -> Result<Verdict, Fail> {
 }
 
 #[test]
-fn a_line_has_both_values_and_each_bit(rt: HostRuntime) -> Result<(), Fail> {
+fn each_check_has_a_line(rt: HostRuntime) -> Result<(), Fail> {
     let netlist = two_inputs(&rt);
     assert_eq!(rt; netlist.inputs(), 2);
     let alloc = rt.alloc();
-    let verdict = different(-1, i128::MAX, two_bits(alloc, false, true)?)?;
-    let written = line(alloc, 12, &netlist, &[0, 1], &verdict)?;
+    let verdicts = [
+        Verdict::Equal,
+        different(-1, i128::MAX, two_bits(alloc, false, true)?)?,
+        Verdict::Overflow,
+        Verdict::Full,
+    ];
+    let written = verdict_lines(alloc, &netlist, &[0, 1], &verdicts)?;
     assert_eq!(rt;
         written.as_str(),
-        "check 12 different left -1 right 170141183460469231731687303715884105727 at a=0 b=1\n"
+        "check 1 equal\ncheck 2 different left -1 right 170141183460469231731687303715884105727 at a=0 b=1\ncheck 3 overflow\ncheck 4 full\n"
     );
     Ok(())
 }
@@ -46,5 +52,11 @@ fn a_refusal_has_its_line(rt: HostRuntime) -> Result<(), Fail> {
     };
     let written = refusal_line(rt.alloc(), &Refusal::Netlist(fault))?;
     assert_eq!(rt; written.as_str(), "refused netlist 3 duplicate-net\n");
+    let fault = SpecFault {
+        line: 0,
+        cause: SpecCause::NoCheck,
+    };
+    let written = refusal_line(rt.alloc(), &Refusal::Spec(fault))?;
+    assert_eq!(rt; written.as_str(), "refused spec 0 no-check\n");
     Ok(())
 }
