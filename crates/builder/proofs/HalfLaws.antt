@@ -1,6 +1,6 @@
 -- The halves of a table by its parts.
 use Rattle.std.proofs.Common.{◌≡◌, refl, sym, ◌∙◌, ap, subst, ℕ, suc, ◌+◌, ◌<◌, Bool, true, false, List, [], ◌∷◌, length, drop, arith}
-use Rattle.std.specs.Prelude.{Result, Ok, Err, not}
+use Rattle.std.specs.Prelude.{Result, Ok, Err, IfOk, not}
 use Rattle.std.specs.Result.{IsErrAnd}
 use Rattle.word_base.specs.declared.decomp.Decomp.{Decomp}
 use Rattle.word_base.specs.declared.decomp.Decomp.TheVariants.{S, P, N}
@@ -18,9 +18,9 @@ use Rattle.builder.specs.View.{View, letter_at, StandsAt, IsEdge, Keeps}
 use Rattle.builder.specs.declared.limit.Limit.{Limit}
 use Rattle.builder.specs.declared.limit.Limit.TheVariants as limit
 use Rattle.builder.proofs.CallLaws.{ran_nothing, answers_then}
-use Rattle.builder.proofs.EachLaws.{part_lies_below}
+use Rattle.builder.proofs.EachLaws.{part_lies_below, good_answer}
 use Rattle.builder.proofs.JoinCauses.{answers_overflow, refused}
-use Rattle.builder.proofs.LevelLaws.{letters_at, has_letter}
+use Rattle.builder.proofs.LevelLaws.{letters_at, has_letter, stands_somewhere}
 
 -- ---- which half the parts are
 -- the letter and the bit whose half is the sum of both parts
@@ -90,3 +90,11 @@ parts_good k v w l e low high can same are =
 -- the letter that was read
 pub letter_read : (v w : View) (l : ℕ) (d : Decomp) → w ≡ v → d ≡ letter_at w.letters l → letter_at v.letters l ≡ d
 letter_read v w l d same is = ap (λ (x : View). letter_at x.letters l) (sym same) ∙ sym is
+
+-- a half that is answered is a good edge
+pub half_good : {T : Type 0} (k : KindName) (v w : View) (l : ℕ) (bit : Bool) (e : PlainEdge) (f : T → PlainEdge) (result : Result T Limit) → CanPart k v l e →
+    IsHalf k v w l bit e (answered f result) → IfOk result (λ x. IsEdge k w (f x))
+half_good k v w l bit e f result can is =
+    let below = can.below in
+    let t = stands_somewhere k v e l can.good can.not_above (omega arith) in
+    good_answer k v w (cofactor_work bit l t.0) (l + 1) (half bit t.0) f result (is t.0 t.1)

@@ -13,7 +13,7 @@ use star_bmd::StarBmd;
 use std::alloc::Global;
 use std::process::Abort;
 use std::test::Fail;
-use word_base::{Decomp, Levels, Weight};
+use word_base::{Decomp, Levels, Overflow, Weight};
 
 /// A polynomial in the variables of a builder's levels.
 #[derive(Drop)]
@@ -257,13 +257,20 @@ fn check_joins<K: Kind>(
     let more = Term::Sum(&Y, &one);
     let sum = Term::Sum(&Y, &X);
     let less = Term::Difference(&more, &X);
-    let (skipped, high, whole) = match letter {
-        Decomp::S => (&Y, &more, &sum),
-        Decomp::P => (&zero, &one, &sum),
-        Decomp::N => (&zero, &one, &less),
-    };
-    assert!(rt; joins_to(rt, builder, &Y, skipped, &Y)?);
-    assert!(rt; joins_to(rt, builder, &Y, high, whole)?);
+    match letter {
+        Decomp::S => {
+            assert!(rt; joins_to(rt, builder, &Y, &Y, &Y)?);
+            assert!(rt; joins_to(rt, builder, &Y, &more, &sum)?);
+        }
+        Decomp::P => {
+            assert!(rt; joins_to(rt, builder, &Y, &zero, &Y)?);
+            assert!(rt; joins_to(rt, builder, &Y, &one, &sum)?);
+        }
+        Decomp::N => {
+            assert!(rt; joins_to(rt, builder, &Y, &zero, &Y)?);
+            assert!(rt; joins_to(rt, builder, &Y, &one, &less)?);
+        }
+    }
     Ok(())
 }
 
@@ -313,8 +320,7 @@ fn half_at<K: Kind>(
     bit: bool,
 ) -> Result<Edge<K>, Limit>
     requires { IsEdge K.NAME builder.old (plain K.extra_of edge) }
-    ensures keeps { Keeps builder.old builder.new }
-    ensures good { IfOk result (λ e. IsEdge K.NAME builder.new (plain K.extra_of e)) }
+    ensures { IfOk result (λ e. IsEdge K.NAME builder.new (plain K.extra_of e)) }
 {
     assert!(rt; level < builder.levels());
     assert!(rt; level <= builder.top(edge));
@@ -335,48 +341,60 @@ fn cofactor_of_a_product_of_complements(rt: HostRuntime) -> Result<(), Fail> {
     Ok(())
 }
 
-/// The edge of a table by its entries.
-fn edge_of<K: Kind>(
+/// The sum of an edge and a multiple of a term.
+fn one_more<K: Kind>(
     rt: &impl Abort,
     builder: &mut Builder<K, SoloStore>,
-    entries: &[Weight; 4],
+    sum: Edge<K>,
+    factor: Weight,
+    term: &Term,
 ) -> Result<Edge<K>, Limit>
-    ensures keeps { Keeps builder.old builder.new }
-    ensures good { IfOk result (λ e. IsEdge K.NAME builder.new (plain K.extra_of e)) }
+    requires { IsEdge K.NAME builder.old (plain K.extra_of sum) }
+    ensures { IfOk result (λ e. IsEdge K.NAME builder.new (plain K.extra_of e)) }
 {
-    let one = Term::Constant(Weight::ONE);
-    let not_x = Term::Difference(&one, &X);
-    let not_y = Term::Difference(&one, &Y);
-    let rows = [
-        Term::Product(&not_x, &not_y),
-        Term::Product(&not_x, &Y),
-        Term::Product(&X, &not_y),
-        Term::Product(&X, &Y),
-    ];
-    let multiples = [
-        Term::Multiple(entries[0], &rows[0]),
-        Term::Multiple(entries[1], &rows[1]),
-        Term::Multiple(entries[2], &rows[2]),
-        Term::Multiple(entries[3], &rows[3]),
-    ];
-    let low = Term::Sum(&multiples[0], &multiples[1]);
-    let high = Term::Sum(&multiples[2], &multiples[3]);
-    Term::Sum(&low, &high).edge(rt, builder)
+    let multiple = Term::Multiple(factor, term).edge(rt, builder)?;
+    builder.add(sum, multiple)
 }
 
-/// Stops where the half of a half is not the entry.
-fn check_entry<K: Kind>(
+/// The polynomial with these coefficients of 1, X, Y and X*Y.
+fn polynomial<K: Kind>(
     rt: &impl Abort,
     builder: &mut Builder<K, SoloStore>,
-    entries: &[Weight; 4],
-    first: bool,
-    second: bool,
+    coefficients: &[Weight; 4],
+) -> Result<Edge<K>, Limit>
+    ensures { IfOk result (λ e. IsEdge K.NAME builder.new (plain K.extra_of e)) }
+{
+    let sum = builder.constant(coefficients[0]);
+    let sum = one_more(rt, builder, sum, coefficients[1], &X)?;
+    let sum = one_more(rt, builder, sum, coefficients[2], &Y)?;
+    let product = Term::Product(&X, &Y);
+    one_more(rt, builder, sum, coefficients[3], &product)
+}
+
+/// The value of that polynomial.
+fn value(coefficients: &[Weight; 4], x: bool, y: bool) -> Result<Weight, Overflow> {
+    let at_x = if x { coefficients[1] } else { Weight::ZERO };
+    let at_y = if y { coefficients[2] } else { Weight::ZERO };
+    let at_both = if x && y {
+        coefficients[3]
+    } else {
+        Weight::ZERO
+    };
+    coefficients[0].add(at_x)?.add(at_y)?.add(at_both)
+}
+
+/// Stops where the half of a half of a polynomial is not its value.
+fn check_value<K: Kind>(
+    rt: &impl Abort,
+    builder: &mut Builder<K, SoloStore>,
+    coefficients: &[Weight; 4],
+    x: bool,
+    y: bool,
 ) -> Result<(), Fail> {
-    let place = if first { 2 } else { 0 } + if second { 1 } else { 0 };
-    let wanted = builder.constant(entries[place]);
-    let whole = edge_of(rt, builder, entries)?;
-    let half = half_at(rt, builder, whole, 0, first)?;
-    let entry = half_at(rt, builder, half, 1, second)?;
+    let wanted = builder.constant(value(coefficients, x, y)?);
+    let whole = polynomial(rt, builder, coefficients)?;
+    let half = half_at(rt, builder, whole, 0, x)?;
+    let entry = half_at(rt, builder, half, 1, y)?;
     assert!(rt; builder.same(entry, wanted));
     Ok(())
 }
@@ -388,7 +406,7 @@ fn next(state: u64) -> u64 {
     state ^ (state << 17)
 }
 
-fn random_entry(state: u64) -> Weight {
+fn random_weight(state: u64) -> Weight {
     match state % 5 {
         0 => Weight::ZERO,
         1 => Weight::ONE,
@@ -398,27 +416,27 @@ fn random_entry(state: u64) -> Weight {
     }
 }
 
-/// Each entry of random tables, by two halves.
+/// Each value of random polynomials, by two halves.
 fn check_halves<K: Kind>(rt: &impl Abort, builder: &mut Builder<K, SoloStore>) -> Result<(), Fail> {
     let mut state = 88_172_645_463_325_252;
     for _ in 0..8 {
-        let entries = [
-            random_entry(state >> 8),
-            random_entry(state >> 20),
-            random_entry(state >> 32),
-            random_entry(state >> 44),
+        let coefficients = [
+            random_weight(state >> 8),
+            random_weight(state >> 20),
+            random_weight(state >> 32),
+            random_weight(state >> 44),
         ];
-        check_entry(rt, builder, &entries, false, false)?;
-        check_entry(rt, builder, &entries, false, true)?;
-        check_entry(rt, builder, &entries, true, false)?;
-        check_entry(rt, builder, &entries, true, true)?;
+        check_value(rt, builder, &coefficients, false, false)?;
+        check_value(rt, builder, &coefficients, false, true)?;
+        check_value(rt, builder, &coefficients, true, false)?;
+        check_value(rt, builder, &coefficients, true, true)?;
         state = next(state);
     }
     Ok(())
 }
 
 #[test]
-fn halves_of_halves_are_entries(rt: HostRuntime) -> Result<(), Fail> {
+fn halves_of_halves_are_values(rt: HostRuntime) -> Result<(), Fail> {
     for first in [Decomp::S, Decomp::P, Decomp::N] {
         for second in [Decomp::S, Decomp::P, Decomp::N] {
             let letters = [first, second];
