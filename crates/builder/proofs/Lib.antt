@@ -3,6 +3,7 @@ pub mod CallLaws
 pub mod DifferenceLaws
 pub mod EachLaws
 mod Examples
+pub mod HalfLaws
 pub mod JoinCauses
 pub mod JoinLaws
 pub mod LevelLaws

@@ -1,4 +1,5 @@
 pub mod Answers
 pub mod Calls
+pub mod Cofactor
 pub mod Products
 pub mod View

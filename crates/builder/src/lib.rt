@@ -2,6 +2,7 @@
 #![tactic(auto)]
 
 mod builder;
+mod cofactor;
 mod difference;
 mod limit;
 mod multiple;

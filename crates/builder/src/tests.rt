@@ -1,5 +1,5 @@
 ghost use Rattle.std.specs.Prelude.{◌≡◌, ◌<◌, ◌≤◌, IfOk, true};
-ghost use Rattle.word_base.specs.Kind.{is_allowed};
+ghost use Rattle.tables.specs.Laws.{are_allowed};
 ghost use Rattle.kinds.specs.Plain.{plain};
 ghost use Rattle.builder.specs.View.{IsEdge, Keeps};
 
@@ -13,7 +13,7 @@ use star_bmd::StarBmd;
 use std::alloc::Global;
 use std::process::Abort;
 use std::test::Fail;
-use word_base::{Decomp, Levels, Weight};
+use word_base::{Decomp, Levels, Overflow, Weight};
 
 /// A polynomial in the variables of a builder's levels.
 #[derive(Drop)]
@@ -30,6 +30,12 @@ enum Term<'a> {
 const X: Term<'static> = Term::Variable(0);
 
 const Y: Term<'static> = Term::Variable(1);
+
+const SHANNON: [Decomp; 2] = [Decomp::S, Decomp::S];
+
+const POSITIVE: [Decomp; 2] = [Decomp::P, Decomp::P];
+
+const NEGATIVE: [Decomp; 2] = [Decomp::N, Decomp::N];
 
 impl Term<'_> {
     fn edge<K: Kind>(
@@ -73,17 +79,17 @@ impl Term<'_> {
     }
 }
 
-/// A builder with two levels of one letter.
+/// A builder with two levels.
 fn two_levels<K: Kind>(
     alloc: Global,
-    letter: Decomp,
+    letters: &[Decomp; 2],
     cells: u32,
 ) -> Result<Builder<K, SoloStore>, Fail>
-    requires allowed { is_allowed K.NAME letter ≡ true }
+    requires allowed { are_allowed K.NAME letters.now ≡ true }
     requires some { 0 < cells }
-    requires within { cells ≤ 100 }
+    requires within { cells ≤ 1000 }
 {
-    let levels = Levels::new(alloc, &[letter, letter])?;
+    let levels = Levels::new(alloc, letters)?;
     let store = SoloStore::create(alloc, cells)?;
     Ok(Builder::create(store, levels))
 }
@@ -125,11 +131,12 @@ fn check_terms<K: Kind>(rt: &impl Abort, builder: &mut Builder<K, SoloStore>) ->
 #[test]
 fn terms_with_one_meaning_have_one_edge(rt: HostRuntime) -> Result<(), Fail> {
     for letter in [Decomp::S, Decomp::P, Decomp::N] {
-        check_terms(&rt, &mut two_levels::<Hdd>(rt.alloc(), letter, 100)?)?;
-        check_terms(&rt, &mut two_levels::<KStarBmd>(rt.alloc(), letter, 100)?)?;
+        let letters = [letter, letter];
+        check_terms(&rt, &mut two_levels::<Hdd>(rt.alloc(), &letters, 100)?)?;
+        check_terms(&rt, &mut two_levels::<KStarBmd>(rt.alloc(), &letters, 100)?)?;
     }
-    check_terms(&rt, &mut two_levels::<Evbdd>(rt.alloc(), Decomp::S, 100)?)?;
-    check_terms(&rt, &mut two_levels::<StarBmd>(rt.alloc(), Decomp::P, 100)?)
+    check_terms(&rt, &mut two_levels::<Evbdd>(rt.alloc(), &SHANNON, 100)?)?;
+    check_terms(&rt, &mut two_levels::<StarBmd>(rt.alloc(), &POSITIVE, 100)?)
 }
 
 fn check_causes<K: Kind>(rt: &impl Abort, builder: &mut Builder<K, SoloStore>) -> Result<(), Fail> {
@@ -149,8 +156,300 @@ fn check_causes<K: Kind>(rt: &impl Abort, builder: &mut Builder<K, SoloStore>) -
 
 #[test]
 fn a_store_of_one_node_is_full(rt: HostRuntime) -> Result<(), Fail> {
-    check_causes(&rt, &mut two_levels::<Hdd>(rt.alloc(), Decomp::N, 1)?)?;
-    check_causes(&rt, &mut two_levels::<Evbdd>(rt.alloc(), Decomp::S, 1)?)?;
-    check_causes(&rt, &mut two_levels::<StarBmd>(rt.alloc(), Decomp::P, 1)?)?;
-    check_causes(&rt, &mut two_levels::<KStarBmd>(rt.alloc(), Decomp::S, 1)?)
+    check_causes(&rt, &mut two_levels::<Hdd>(rt.alloc(), &NEGATIVE, 1)?)?;
+    check_causes(&rt, &mut two_levels::<Evbdd>(rt.alloc(), &SHANNON, 1)?)?;
+    check_causes(&rt, &mut two_levels::<StarBmd>(rt.alloc(), &POSITIVE, 1)?)?;
+    check_causes(&rt, &mut two_levels::<KStarBmd>(rt.alloc(), &SHANNON, 1)?)
+}
+
+/// The parts of an edge at a level that is not below its node.
+fn parts_at<K: Kind>(
+    rt: &impl Abort,
+    builder: &mut Builder<K, SoloStore>,
+    edge: Edge<K>,
+    level: u16,
+) -> Result<(Edge<K>, Edge<K>), Fail>
+    requires { IsEdge K.NAME builder.old (plain K.extra_of edge) }
+    ensures { builder.new ≡ builder.old }
+{
+    assert!(rt; level < builder.levels());
+    assert!(rt; level <= builder.top(edge));
+    Ok(builder.parts(edge, level)?)
+}
+
+/// A variable's parts, at its level and above it.
+fn check_parts<K: Kind>(
+    rt: &impl Abort,
+    builder: &mut Builder<K, SoloStore>,
+    letter: Decomp,
+) -> Result<(), Fail> {
+    let zero = builder.constant(Weight::ZERO);
+    let one = builder.constant(Weight::ONE);
+    let minus_one = builder.constant(Weight::ONE.neg());
+    let y = Y.edge(rt, builder)?;
+    let (low, high, above) = match letter {
+        Decomp::S => (zero, one, y),
+        Decomp::P => (zero, one, zero),
+        Decomp::N => (one, minus_one, zero),
+    };
+    let parts = parts_at(rt, builder, y, 1)?;
+    assert!(rt; builder.same(parts.0, low));
+    assert!(rt; builder.same(parts.1, high));
+    let skipped = parts_at(rt, builder, y, 0)?;
+    assert!(rt; builder.same(skipped.0, y));
+    assert!(rt; builder.same(skipped.1, above));
+    Ok(())
+}
+
+/// The levels of the nodes of both variables, of their sum and of a constant.
+fn check_tops<K: Kind>(rt: &impl Abort, builder: &mut Builder<K, SoloStore>) -> Result<(), Fail> {
+    let y = Y.edge(rt, builder)?;
+    assert_eq!(rt; builder.top(y), 1);
+    let x = X.edge(rt, builder)?;
+    assert_eq!(rt; builder.top(x), 0);
+    let sum = Term::Sum(&Y, &X).edge(rt, builder)?;
+    assert_eq!(rt; builder.top(sum), 0);
+    let one = Term::Constant(Weight::ONE).edge(rt, builder)?;
+    assert_eq!(rt; builder.top(one), 2);
+    Ok(())
+}
+
+/// The join of two edges below a level.
+fn join_at<K: Kind>(
+    rt: &impl Abort,
+    builder: &mut Builder<K, SoloStore>,
+    level: u16,
+    low: Edge<K>,
+    high: Edge<K>,
+) -> Result<Edge<K>, Fail>
+    requires low { IsEdge K.NAME builder.old (plain K.extra_of low) }
+    requires high { IsEdge K.NAME builder.old (plain K.extra_of high) }
+{
+    assert!(rt; level < builder.levels());
+    assert!(rt; level < builder.top(low));
+    assert!(rt; level < builder.top(high));
+    Ok(builder.join(level, low, high)?)
+}
+
+/// Whether the join of two terms at level 0 is the edge of a third one.
+fn joins_to<K: Kind>(
+    rt: &impl Abort,
+    builder: &mut Builder<K, SoloStore>,
+    low: &Term,
+    high: &Term,
+    whole: &Term,
+) -> Result<bool, Fail> {
+    let whole = whole.edge(rt, builder)?;
+    let low = low.edge(rt, builder)?;
+    let high = high.edge(rt, builder)?;
+    let joined = join_at(rt, builder, 0, low, high)?;
+    Ok(builder.same(joined, whole))
+}
+
+/// A join that needs no node, and one with a node of its own.
+fn check_joins<K: Kind>(
+    rt: &impl Abort,
+    builder: &mut Builder<K, SoloStore>,
+    letter: Decomp,
+) -> Result<(), Fail> {
+    let zero = Term::Constant(Weight::ZERO);
+    let one = Term::Constant(Weight::ONE);
+    let more = Term::Sum(&Y, &one);
+    let sum = Term::Sum(&Y, &X);
+    let less = Term::Difference(&more, &X);
+    match letter {
+        Decomp::S => {
+            assert!(rt; joins_to(rt, builder, &Y, &Y, &Y)?);
+            assert!(rt; joins_to(rt, builder, &Y, &more, &sum)?);
+        }
+        Decomp::P => {
+            assert!(rt; joins_to(rt, builder, &Y, &zero, &Y)?);
+            assert!(rt; joins_to(rt, builder, &Y, &one, &sum)?);
+        }
+        Decomp::N => {
+            assert!(rt; joins_to(rt, builder, &Y, &zero, &Y)?);
+            assert!(rt; joins_to(rt, builder, &Y, &one, &less)?);
+        }
+    }
+    Ok(())
+}
+
+fn check_calls<K: Kind>(
+    rt: &impl Abort,
+    builder: &mut Builder<K, SoloStore>,
+    letter: Decomp,
+) -> Result<(), Fail> {
+    check_tops(rt, builder)?;
+    check_parts(rt, builder, letter)?;
+    check_joins(rt, builder, letter)
+}
+
+#[test]
+fn parts_and_joins_by_hand(rt: HostRuntime) -> Result<(), Fail> {
+    for letter in [Decomp::S, Decomp::P, Decomp::N] {
+        let letters = [letter, letter];
+        check_calls(
+            &rt,
+            &mut two_levels::<Hdd>(rt.alloc(), &letters, 100)?,
+            letter,
+        )?;
+        check_calls(
+            &rt,
+            &mut two_levels::<KStarBmd>(rt.alloc(), &letters, 100)?,
+            letter,
+        )?;
+    }
+    check_calls(
+        &rt,
+        &mut two_levels::<Evbdd>(rt.alloc(), &SHANNON, 100)?,
+        Decomp::S,
+    )?;
+    check_calls(
+        &rt,
+        &mut two_levels::<StarBmd>(rt.alloc(), &POSITIVE, 100)?,
+        Decomp::P,
+    )
+}
+
+/// The half of an edge at a level that is not below its node.
+fn half_at<K: Kind>(
+    rt: &impl Abort,
+    builder: &mut Builder<K, SoloStore>,
+    edge: Edge<K>,
+    level: u16,
+    bit: bool,
+) -> Result<Edge<K>, Limit>
+    requires { IsEdge K.NAME builder.old (plain K.extra_of edge) }
+    ensures { IfOk result (λ e. IsEdge K.NAME builder.new (plain K.extra_of e)) }
+{
+    assert!(rt; level < builder.levels());
+    assert!(rt; level <= builder.top(edge));
+    builder.cofactor(edge, level, bit)
+}
+
+/// No two of a variable and what it lacks to 1 are 1 together.
+#[test]
+fn cofactor_of_a_product_of_complements(rt: HostRuntime) -> Result<(), Fail> {
+    let mut builder = two_levels::<Hdd>(rt.alloc(), &NEGATIVE, 100)?;
+    let one = Term::Constant(Weight::ONE);
+    let not_x = Term::Difference(&one, &X);
+    let not_y = Term::Difference(&one, &Y);
+    let product = Term::Product(&not_x, &not_y).edge(&rt, &mut builder)?;
+    let half = half_at(&rt, &mut builder, product, 0, true)?;
+    let zero = builder.constant(Weight::ZERO);
+    assert!(&rt; builder.same(half, zero));
+    Ok(())
+}
+
+/// The sum of an edge and a multiple of a term.
+fn one_more<K: Kind>(
+    rt: &impl Abort,
+    builder: &mut Builder<K, SoloStore>,
+    sum: Edge<K>,
+    factor: Weight,
+    term: &Term,
+) -> Result<Edge<K>, Limit>
+    requires { IsEdge K.NAME builder.old (plain K.extra_of sum) }
+    ensures { IfOk result (λ e. IsEdge K.NAME builder.new (plain K.extra_of e)) }
+{
+    let multiple = Term::Multiple(factor, term).edge(rt, builder)?;
+    builder.add(sum, multiple)
+}
+
+/// The polynomial with these coefficients of 1, X, Y and X*Y.
+fn polynomial<K: Kind>(
+    rt: &impl Abort,
+    builder: &mut Builder<K, SoloStore>,
+    coefficients: &[Weight; 4],
+) -> Result<Edge<K>, Limit>
+    ensures { IfOk result (λ e. IsEdge K.NAME builder.new (plain K.extra_of e)) }
+{
+    let sum = builder.constant(coefficients[0]);
+    let sum = one_more(rt, builder, sum, coefficients[1], &X)?;
+    let sum = one_more(rt, builder, sum, coefficients[2], &Y)?;
+    let product = Term::Product(&X, &Y);
+    one_more(rt, builder, sum, coefficients[3], &product)
+}
+
+/// The value of that polynomial.
+fn value(coefficients: &[Weight; 4], x: bool, y: bool) -> Result<Weight, Overflow> {
+    let at_x = if x { coefficients[1] } else { Weight::ZERO };
+    let at_y = if y { coefficients[2] } else { Weight::ZERO };
+    let at_both = if x && y {
+        coefficients[3]
+    } else {
+        Weight::ZERO
+    };
+    coefficients[0].add(at_x)?.add(at_y)?.add(at_both)
+}
+
+/// Stops where the half of a half of a polynomial is not its value.
+fn check_value<K: Kind>(
+    rt: &impl Abort,
+    builder: &mut Builder<K, SoloStore>,
+    coefficients: &[Weight; 4],
+    x: bool,
+    y: bool,
+) -> Result<(), Fail> {
+    let wanted = builder.constant(value(coefficients, x, y)?);
+    let whole = polynomial(rt, builder, coefficients)?;
+    let half = half_at(rt, builder, whole, 0, x)?;
+    let entry = half_at(rt, builder, half, 1, y)?;
+    assert!(rt; builder.same(entry, wanted));
+    Ok(())
+}
+
+/// The next number of a sequence that looks random.
+fn next(state: u64) -> u64 {
+    let state = state ^ (state << 13);
+    let state = state ^ (state >> 7);
+    state ^ (state << 17)
+}
+
+fn random_weight(state: u64) -> Weight {
+    match state % 5 {
+        0 => Weight::ZERO,
+        1 => Weight::ONE,
+        2 => Weight::TWO,
+        3 => Weight::ONE.neg(),
+        _ => Weight::TWO.neg(),
+    }
+}
+
+/// Each value of random polynomials, by two halves.
+fn check_halves<K: Kind>(rt: &impl Abort, builder: &mut Builder<K, SoloStore>) -> Result<(), Fail> {
+    let mut state = 88_172_645_463_325_252;
+    for _ in 0..8 {
+        let coefficients = [
+            random_weight(state >> 8),
+            random_weight(state >> 20),
+            random_weight(state >> 32),
+            random_weight(state >> 44),
+        ];
+        check_value(rt, builder, &coefficients, false, false)?;
+        check_value(rt, builder, &coefficients, false, true)?;
+        check_value(rt, builder, &coefficients, true, false)?;
+        check_value(rt, builder, &coefficients, true, true)?;
+        state = next(state);
+    }
+    Ok(())
+}
+
+#[test]
+fn halves_of_halves_are_values(rt: HostRuntime) -> Result<(), Fail> {
+    for first in [Decomp::S, Decomp::P, Decomp::N] {
+        for second in [Decomp::S, Decomp::P, Decomp::N] {
+            let letters = [first, second];
+            check_halves(&rt, &mut two_levels::<Hdd>(rt.alloc(), &letters, 1000)?)?;
+            check_halves(
+                &rt,
+                &mut two_levels::<KStarBmd>(rt.alloc(), &letters, 1000)?,
+            )?;
+        }
+    }
+    check_halves(&rt, &mut two_levels::<Evbdd>(rt.alloc(), &SHANNON, 1000)?)?;
+    check_halves(
+        &rt,
+        &mut two_levels::<StarBmd>(rt.alloc(), &POSITIVE, 1000)?,
+    )
 }
