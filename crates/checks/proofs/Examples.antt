@@ -6,7 +6,6 @@ use Rattle.circuits.specs.Examples.{gate, half, c17}
 use Rattle.circuits.specs.declared.gate_word.GateWord.TheVariants.{And, Nor, Or, Not}
 use Rattle.spec_lang.specs.Formula.{Formula, number, word, sum, difference, product}
 use Rattle.spec_lang.specs.Specification.{Check, Specification, single, half_adder, half_adder_check}
-use Rattle.tables.specs.Canonical.{node_count}
 use Rattle.tables.specs.Table.{entry, halves}
 use Rattle.tables.specs.Tree.{leaf, node, weights}
 use Rattle.word_base.specs.declared.decomp.Decomp.{Decomp}
@@ -19,12 +18,7 @@ use Rattle.checks.specs.declared.verdict.Verdict.TheVariants.{Equal, Different}
 use Rattle.checks.proofs.FirstDifference.{first_difference_found}
 use Rattle.checks.specs.Backward.{backward_letters, backward_nets, backward_work}
 use Rattle.checks.specs.Forward.{building_work, forward_work, input_work}
-use Rattle.checks.specs.Sides.{side}
 use Rattle.checks.specs.Limits.{need, nodes_of, over, passes, piece_fits, short}
-
--- the nodes of the left side's canonical diagram
-abbrev pub side_nodes : KindName → Circuit → Specification → Check → ℕ
-side_nodes k c s check = node_count k s.letters (side c s check.left)
 
 -- 2^126 times a formula
 abbrev great : Formula → Formula
@@ -52,7 +46,7 @@ half_or = record {
 }
 
 -- ---- the half adder
-half_or-differs : answer half_or half_adder half_adder_check ≡ Different (pos 3) (pos 2) (true ∷ true ∷ [])
+half_or-differs : answer StarBmd half_or half_adder half_adder_check ≡ Different (pos 3) (pos 2) (true ∷ true ∷ [])
 half_or-differs = refl
 
 -- A product over two levels goes through 31 tables: itself, 7 for each of the four products of parts over one level
@@ -120,11 +114,8 @@ inverted check = record { order = 0 ∷ []; letters = P ∷ []; words = single (
 abbrev complement : Check
 complement = record { left = word 0; right = difference (number (pos 1)) (word 1) }
 
-inverter-equal : answer inverter (inverted complement) complement ≡ Equal
+inverter-equal : answer StarBmd inverter (inverted complement) complement ≡ Equal 1
 inverter-equal = refl
-
-inverter-equal_nodes : side_nodes StarBmd inverter (inverted complement) complement ≡ 1
-inverter-equal_nodes = refl
 
 -- The levels are y and a. A product over the level of a goes through 7 tables, and 9 with its operands. On either side the
 -- cut of y has the cut function, its two parts and the variable of a (4), the NOT (4), the product of the polynomial
@@ -167,7 +158,7 @@ never_both-backward = refl
 abbrev less_two : Check
 less_two = record { left = difference (word 0) (number (pos 2)); right = difference (number (pos 0)) (word 1) }
 
-inverter-differs : answer inverter (inverted less_two) less_two ≡ Different (negsuc 0) (pos 0) (false ∷ [])
+inverter-differs : answer StarBmd inverter (inverted less_two) less_two ≡ Different (negsuc 0) (pos 0) (false ∷ [])
 inverter-differs = refl
 
 -- ---- constants
@@ -177,26 +168,23 @@ constants = record { left = number (pos 3); right = number (pos 3) }
 abbrev of_pair : List ℕ → Check → Specification
 of_pair order check = record { order = order; letters = P ∷ P ∷ []; words = single (codes "a") 0 ∷ []; checks = check ∷ [] }
 
-constants-equal : answer pair (of_pair (0 ∷ 1 ∷ []) constants) constants ≡ Equal
+constants-equal : answer StarBmd pair (of_pair (0 ∷ 1 ∷ []) constants) constants ≡ Equal 0
 constants-equal = refl
-
-constants-equal_nodes : side_nodes StarBmd pair (of_pair (0 ∷ 1 ∷ []) constants) constants ≡ 0
-constants-equal_nodes = refl
 
 abbrev one_is_two : Check
 one_is_two = record { left = number (pos 1); right = number (pos 2) }
 
-nothing-differs : answer nothing (record { order = []; letters = []; words = []; checks = one_is_two ∷ [] }) one_is_two ≡ Different (pos 1) (pos 2) []
+nothing-differs : answer StarBmd nothing (record { order = []; letters = []; words = []; checks = one_is_two ∷ [] }) one_is_two ≡ Different (pos 1) (pos 2) []
 nothing-differs = refl
 
 -- ---- the order of the inputs: a == 0 with a above b, and with b above a
 abbrev is_zero : Check
 is_zero = record { left = word 0; right = number (pos 0) }
 
-a_first : answer pair (of_pair (0 ∷ 1 ∷ []) is_zero) is_zero ≡ Different (pos 1) (pos 0) (true ∷ false ∷ [])
+a_first : answer StarBmd pair (of_pair (0 ∷ 1 ∷ []) is_zero) is_zero ≡ Different (pos 1) (pos 0) (true ∷ false ∷ [])
 a_first = refl
 
-b_first : answer pair (of_pair (1 ∷ 0 ∷ []) is_zero) is_zero ≡ Different (pos 1) (pos 0) (false ∷ true ∷ [])
+b_first : answer StarBmd pair (of_pair (1 ∷ 0 ∷ []) is_zero) is_zero ≡ Different (pos 1) (pos 0) (false ∷ true ∷ [])
 b_first = refl
 
 -- ---- z == (1 - a)*(1 - b) for a NOR, with positive and with negative Davio
@@ -214,17 +202,11 @@ of_nor d = record {
   checks = nor_check ∷ [];
 }
 
-nor-positive_davio : answer nor2 (of_nor P) nor_check ≡ Equal
+nor-positive_davio : answer Hdd nor2 (of_nor P) nor_check ≡ Equal 3
 nor-positive_davio = refl
 
-nor-positive_davio_nodes : side_nodes Hdd nor2 (of_nor P) nor_check ≡ 3
-nor-positive_davio_nodes = refl
-
-nor-negative_davio : answer nor2 (of_nor N) nor_check ≡ Equal
+nor-negative_davio : answer Hdd nor2 (of_nor N) nor_check ≡ Equal 2
 nor-negative_davio = refl
-
-nor-negative_davio_nodes : side_nodes Hdd nor2 (of_nor N) nor_check ≡ 2
-nor-negative_davio_nodes = refl
 
 -- ---- the output 22 of C17 is 1 - p*q, with p and q its nets 10 and 16
 abbrev c17_check : Check
@@ -238,11 +220,8 @@ of_c17 = record {
   checks = c17_check ∷ [];
 }
 
-c17-equal : answer c17 of_c17 c17_check ≡ Equal
+c17-equal : answer StarBmd c17 of_c17 c17_check ≡ Equal 8
 c17-equal = refl
-
-c17-equal_nodes : side_nodes StarBmd c17 of_c17 c17_check ≡ 8
-c17-equal_nodes = refl
 
 -- ---- 2^127-1 + 1 is no weight
 abbrev too_great : Check

@@ -13,7 +13,6 @@ use Rattle.checks.specs.declared.method.Method.TheVariants.{Forward, Backward}
 use Rattle.checks.specs.Answer.{answer}
 use Rattle.checks.specs.declared.verdict.Verdict.TheVariants.{Equal, Different}
 use Rattle.checks.specs.Limits.{need, over}
-use Rattle.checks.proofs.Examples.{side_nodes}
 
 abbrev full : Circuit
 full = record { inputs = (codes "a" ∷ codes "b" ∷ codes "ci" ∷ []); gates = (gate (codes "x") Xor (0 ∷ 1 ∷ []) ∷ gate (codes "s") Xor (3 ∷ 2 ∷ []) ∷ gate (codes "g") And (0 ∷ 1 ∷ []) ∷ gate (codes "h") And (3 ∷ 2 ∷ []) ∷ gate (codes "co") Or (5 ∷ 6 ∷ []) ∷ []); outputs = [] }
@@ -76,11 +75,8 @@ half_evbdd_backward_1-need = refl
 half_evbdd_backward_1-over : over Evbdd Backward half (spec_check_0 S) check_0 ≡ false
 half_evbdd_backward_1-over = refl
 
-half_evbdd_backward_1-answer : answer half (spec_check_0 S) check_0 ≡ Equal
+half_evbdd_backward_1-answer : answer Evbdd half (spec_check_0 S) check_0 ≡ Equal 2
 half_evbdd_backward_1-answer = refl
-
-half_evbdd_backward_1-nodes : side_nodes Evbdd half (spec_check_0 S) check_0 ≡ 2
-half_evbdd_backward_1-nodes = refl
 
 half_star_bmd_forward_2-need : need StarBmd Forward half (spec_check_0 P) check_0 ≡ 6
 half_star_bmd_forward_2-need = refl
@@ -88,11 +84,8 @@ half_star_bmd_forward_2-need = refl
 half_star_bmd_forward_2-over : over StarBmd Forward half (spec_check_0 P) check_0 ≡ false
 half_star_bmd_forward_2-over = refl
 
-half_star_bmd_forward_2-answer : answer half (spec_check_0 P) check_0 ≡ Equal
+half_star_bmd_forward_2-answer : answer StarBmd half (spec_check_0 P) check_0 ≡ Equal 2
 half_star_bmd_forward_2-answer = refl
-
-half_star_bmd_forward_2-nodes : side_nodes StarBmd half (spec_check_0 P) check_0 ≡ 2
-half_star_bmd_forward_2-nodes = refl
 
 half_star_bmd_backward_3-need : need StarBmd Backward half (spec_check_0 P) check_0 ≡ 10
 half_star_bmd_backward_3-need = refl
@@ -100,11 +93,8 @@ half_star_bmd_backward_3-need = refl
 half_star_bmd_backward_3-over : over StarBmd Backward half (spec_check_0 P) check_0 ≡ false
 half_star_bmd_backward_3-over = refl
 
-half_star_bmd_backward_3-answer : answer half (spec_check_0 P) check_0 ≡ Equal
+half_star_bmd_backward_3-answer : answer StarBmd half (spec_check_0 P) check_0 ≡ Equal 2
 half_star_bmd_backward_3-answer = refl
-
-half_star_bmd_backward_3-nodes : side_nodes StarBmd half (spec_check_0 P) check_0 ≡ 2
-half_star_bmd_backward_3-nodes = refl
 
 half_hdd_backward_5-need : need Hdd Backward half (spec_check_0 P) check_0 ≡ 15
 half_hdd_backward_5-need = refl
@@ -112,11 +102,8 @@ half_hdd_backward_5-need = refl
 half_hdd_backward_5-over : over Hdd Backward half (spec_check_0 P) check_0 ≡ false
 half_hdd_backward_5-over = refl
 
-half_hdd_backward_5-answer : answer half (spec_check_0 P) check_0 ≡ Equal
+half_hdd_backward_5-answer : answer Hdd half (spec_check_0 P) check_0 ≡ Equal 2
 half_hdd_backward_5-answer = refl
-
-half_hdd_backward_5-nodes : side_nodes Hdd half (spec_check_0 P) check_0 ≡ 2
-half_hdd_backward_5-nodes = refl
 
 half_k_star_bmd_backward_7-need : need KStarBmd Backward half (spec_check_0 P) check_0 ≡ 9
 half_k_star_bmd_backward_7-need = refl
@@ -124,11 +111,8 @@ half_k_star_bmd_backward_7-need = refl
 half_k_star_bmd_backward_7-over : over KStarBmd Backward half (spec_check_0 P) check_0 ≡ false
 half_k_star_bmd_backward_7-over = refl
 
-half_k_star_bmd_backward_7-answer : answer half (spec_check_0 P) check_0 ≡ Equal
+half_k_star_bmd_backward_7-answer : answer KStarBmd half (spec_check_0 P) check_0 ≡ Equal 2
 half_k_star_bmd_backward_7-answer = refl
-
-half_k_star_bmd_backward_7-nodes : side_nodes KStarBmd half (spec_check_0 P) check_0 ≡ 2
-half_k_star_bmd_backward_7-nodes = refl
 
 half_hdd_forward_12-need : need Hdd Forward half (spec_check_1 P) check_1 ≡ 12
 half_hdd_forward_12-need = refl
@@ -136,7 +120,7 @@ half_hdd_forward_12-need = refl
 half_hdd_forward_12-over : over Hdd Forward half (spec_check_1 P) check_1 ≡ false
 half_hdd_forward_12-over = refl
 
-half_hdd_forward_12-answer : answer half (spec_check_1 P) check_1 ≡ Different (pos 1) (pos 2) (true ∷ true ∷ [])
+half_hdd_forward_12-answer : answer Hdd half (spec_check_1 P) check_1 ≡ Different (pos 1) (pos 2) (true ∷ true ∷ [])
 half_hdd_forward_12-answer = refl
 
 half_k_star_bmd_backward_15-need : need KStarBmd Backward half (spec_check_1 P) check_1 ≡ 10
@@ -145,7 +129,7 @@ half_k_star_bmd_backward_15-need = refl
 half_k_star_bmd_backward_15-over : over KStarBmd Backward half (spec_check_1 P) check_1 ≡ false
 half_k_star_bmd_backward_15-over = refl
 
-half_k_star_bmd_backward_15-answer : answer half (spec_check_1 P) check_1 ≡ Different (pos 1) (pos 2) (true ∷ true ∷ [])
+half_k_star_bmd_backward_15-answer : answer KStarBmd half (spec_check_1 P) check_1 ≡ Different (pos 1) (pos 2) (true ∷ true ∷ [])
 half_k_star_bmd_backward_15-answer = refl
 
 half_evbdd_backward_17-need : need Evbdd Backward half (spec_check_2 S) check_2 ≡ 48
@@ -154,7 +138,7 @@ half_evbdd_backward_17-need = refl
 half_evbdd_backward_17-over : over Evbdd Backward half (spec_check_2 S) check_2 ≡ false
 half_evbdd_backward_17-over = refl
 
-half_evbdd_backward_17-answer : answer half (spec_check_2 S) check_2 ≡ Different (pos 1) (pos 3) (false ∷ true ∷ [])
+half_evbdd_backward_17-answer : answer Evbdd half (spec_check_2 S) check_2 ≡ Different (pos 1) (pos 3) (false ∷ true ∷ [])
 half_evbdd_backward_17-answer = refl
 
 half_star_bmd_forward_18-need : need StarBmd Forward half (spec_check_2 P) check_2 ≡ 10
@@ -163,7 +147,7 @@ half_star_bmd_forward_18-need = refl
 half_star_bmd_forward_18-over : over StarBmd Forward half (spec_check_2 P) check_2 ≡ false
 half_star_bmd_forward_18-over = refl
 
-half_star_bmd_forward_18-answer : answer half (spec_check_2 P) check_2 ≡ Different (pos 1) (pos 3) (false ∷ true ∷ [])
+half_star_bmd_forward_18-answer : answer StarBmd half (spec_check_2 P) check_2 ≡ Different (pos 1) (pos 3) (false ∷ true ∷ [])
 half_star_bmd_forward_18-answer = refl
 
 half_k_star_bmd_backward_23-need : need KStarBmd Backward half (spec_check_2 P) check_2 ≡ 20
@@ -172,7 +156,7 @@ half_k_star_bmd_backward_23-need = refl
 half_k_star_bmd_backward_23-over : over KStarBmd Backward half (spec_check_2 P) check_2 ≡ false
 half_k_star_bmd_backward_23-over = refl
 
-half_k_star_bmd_backward_23-answer : answer half (spec_check_2 P) check_2 ≡ Different (pos 1) (pos 3) (false ∷ true ∷ [])
+half_k_star_bmd_backward_23-answer : answer KStarBmd half (spec_check_2 P) check_2 ≡ Different (pos 1) (pos 3) (false ∷ true ∷ [])
 half_k_star_bmd_backward_23-answer = refl
 
 full_star_bmd_forward_26-need : need StarBmd Forward full (spec_check_3 P) check_3 ≡ 18
@@ -181,11 +165,8 @@ full_star_bmd_forward_26-need = refl
 full_star_bmd_forward_26-over : over StarBmd Forward full (spec_check_3 P) check_3 ≡ false
 full_star_bmd_forward_26-over = refl
 
-full_star_bmd_forward_26-answer : answer full (spec_check_3 P) check_3 ≡ Equal
+full_star_bmd_forward_26-answer : answer StarBmd full (spec_check_3 P) check_3 ≡ Equal 3
 full_star_bmd_forward_26-answer = refl
-
-full_star_bmd_forward_26-nodes : side_nodes StarBmd full (spec_check_3 P) check_3 ≡ 3
-full_star_bmd_forward_26-nodes = refl
 
 full_hdd_forward_28-need : need Hdd Forward full (spec_check_3 P) check_3 ≡ 38
 full_hdd_forward_28-need = refl
@@ -193,11 +174,8 @@ full_hdd_forward_28-need = refl
 full_hdd_forward_28-over : over Hdd Forward full (spec_check_3 P) check_3 ≡ false
 full_hdd_forward_28-over = refl
 
-full_hdd_forward_28-answer : answer full (spec_check_3 P) check_3 ≡ Equal
+full_hdd_forward_28-answer : answer Hdd full (spec_check_3 P) check_3 ≡ Equal 3
 full_hdd_forward_28-answer = refl
-
-full_hdd_forward_28-nodes : side_nodes Hdd full (spec_check_3 P) check_3 ≡ 3
-full_hdd_forward_28-nodes = refl
 
 full_evbdd_forward_32-need : need Evbdd Forward full (spec_check_4 S) check_4 ≡ 24
 full_evbdd_forward_32-need = refl
@@ -205,7 +183,7 @@ full_evbdd_forward_32-need = refl
 full_evbdd_forward_32-over : over Evbdd Forward full (spec_check_4 S) check_4 ≡ false
 full_evbdd_forward_32-over = refl
 
-full_evbdd_forward_32-answer : answer full (spec_check_4 S) check_4 ≡ Different (pos 1) (pos 0) (true ∷ false ∷ false ∷ [])
+full_evbdd_forward_32-answer : answer Evbdd full (spec_check_4 S) check_4 ≡ Different (pos 1) (pos 0) (true ∷ false ∷ false ∷ [])
 full_evbdd_forward_32-answer = refl
 
 full_hdd_forward_36-need : need Hdd Forward full (spec_check_4 P) check_4 ≡ 25
@@ -214,7 +192,7 @@ full_hdd_forward_36-need = refl
 full_hdd_forward_36-over : over Hdd Forward full (spec_check_4 P) check_4 ≡ false
 full_hdd_forward_36-over = refl
 
-full_hdd_forward_36-answer : answer full (spec_check_4 P) check_4 ≡ Different (pos 1) (pos 0) (true ∷ false ∷ false ∷ [])
+full_hdd_forward_36-answer : answer Hdd full (spec_check_4 P) check_4 ≡ Different (pos 1) (pos 0) (true ∷ false ∷ false ∷ [])
 full_hdd_forward_36-answer = refl
 
 mix_evbdd_forward_40-need : need Evbdd Forward mix (spec_check_5 S) check_5 ≡ 19
@@ -223,11 +201,8 @@ mix_evbdd_forward_40-need = refl
 mix_evbdd_forward_40-over : over Evbdd Forward mix (spec_check_5 S) check_5 ≡ false
 mix_evbdd_forward_40-over = refl
 
-mix_evbdd_forward_40-answer : answer mix (spec_check_5 S) check_5 ≡ Equal
+mix_evbdd_forward_40-answer : answer Evbdd mix (spec_check_5 S) check_5 ≡ Equal 3
 mix_evbdd_forward_40-answer = refl
-
-mix_evbdd_forward_40-nodes : side_nodes Evbdd mix (spec_check_5 S) check_5 ≡ 3
-mix_evbdd_forward_40-nodes = refl
 
 mix_k_star_bmd_forward_46-need : need KStarBmd Forward mix (spec_check_5 P) check_5 ≡ 9
 mix_k_star_bmd_forward_46-need = refl
@@ -235,11 +210,8 @@ mix_k_star_bmd_forward_46-need = refl
 mix_k_star_bmd_forward_46-over : over KStarBmd Forward mix (spec_check_5 P) check_5 ≡ false
 mix_k_star_bmd_forward_46-over = refl
 
-mix_k_star_bmd_forward_46-answer : answer mix (spec_check_5 P) check_5 ≡ Equal
+mix_k_star_bmd_forward_46-answer : answer KStarBmd mix (spec_check_5 P) check_5 ≡ Equal 2
 mix_k_star_bmd_forward_46-answer = refl
-
-mix_k_star_bmd_forward_46-nodes : side_nodes KStarBmd mix (spec_check_5 P) check_5 ≡ 2
-mix_k_star_bmd_forward_46-nodes = refl
 
 mix_evbdd_forward_48-need : need Evbdd Forward mix (spec_check_6 S) check_6 ≡ 14
 mix_evbdd_forward_48-need = refl
@@ -247,7 +219,7 @@ mix_evbdd_forward_48-need = refl
 mix_evbdd_forward_48-over : over Evbdd Forward mix (spec_check_6 S) check_6 ≡ true
 mix_evbdd_forward_48-over = refl
 
-mix_evbdd_forward_48-answer : answer mix (spec_check_6 S) check_6 ≡ Different (negsuc 0) (pos 170141183460469231731687303715884105728) (false ∷ true ∷ [])
+mix_evbdd_forward_48-answer : answer Evbdd mix (spec_check_6 S) check_6 ≡ Different (negsuc 0) (pos 170141183460469231731687303715884105728) (false ∷ true ∷ [])
 mix_evbdd_forward_48-answer = refl
 
 mix_hdd_forward_52-need : need Hdd Forward mix (spec_check_6 P) check_6 ≡ 19
@@ -256,7 +228,7 @@ mix_hdd_forward_52-need = refl
 mix_hdd_forward_52-over : over Hdd Forward mix (spec_check_6 P) check_6 ≡ true
 mix_hdd_forward_52-over = refl
 
-mix_hdd_forward_52-answer : answer mix (spec_check_6 P) check_6 ≡ Different (negsuc 0) (pos 170141183460469231731687303715884105728) (false ∷ true ∷ [])
+mix_hdd_forward_52-answer : answer Hdd mix (spec_check_6 P) check_6 ≡ Different (negsuc 0) (pos 170141183460469231731687303715884105728) (false ∷ true ∷ [])
 mix_hdd_forward_52-answer = refl
 
 mix_k_star_bmd_forward_54-need : need KStarBmd Forward mix (spec_check_6 P) check_6 ≡ 6
@@ -265,5 +237,5 @@ mix_k_star_bmd_forward_54-need = refl
 mix_k_star_bmd_forward_54-over : over KStarBmd Forward mix (spec_check_6 P) check_6 ≡ true
 mix_k_star_bmd_forward_54-over = refl
 
-mix_k_star_bmd_forward_54-answer : answer mix (spec_check_6 P) check_6 ≡ Different (negsuc 0) (pos 170141183460469231731687303715884105728) (false ∷ true ∷ [])
+mix_k_star_bmd_forward_54-answer : answer KStarBmd mix (spec_check_6 P) check_6 ≡ Different (negsuc 0) (pos 170141183460469231731687303715884105728) (false ∷ true ∷ [])
 mix_k_star_bmd_forward_54-answer = refl

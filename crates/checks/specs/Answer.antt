@@ -5,7 +5,10 @@ use Rattle.std.specs.Ordering.{int_eq}
 use Rattle.circuits.specs.Circuit.{Circuit}
 use Rattle.circuits.specs.Examples.{half}
 use Rattle.spec_lang.specs.Specification.{Check, Specification, half_adder, half_adder_check}
+use Rattle.tables.specs.Canonical.{node_count}
 use Rattle.tables.specs.Table.{Table, entry, halves}
+use Rattle.word_base.specs.declared.kind_name.KindName.{KindName}
+use Rattle.word_base.specs.declared.kind_name.KindName.TheVariants.{Hdd}
 use Rattle.checks.specs.Sides.{side}
 use Rattle.checks.specs.declared.verdict.Verdict.{Verdict}
 use Rattle.checks.specs.declared.verdict.Verdict.TheVariants.{Equal, Different}
@@ -58,13 +61,13 @@ pub record IsFirstDifference (n : ℕ) (t u : Table) (d : Difference) : Type 0 w
   pub same_before : (bits : List Bool) → length bits ≡ n → IsBefore bits d.at → entry_at t bits ≡ entry_at u bits
 
 -- ---- the answer
--- the answer to a check that meets no limit: the sides are equal, or they differ, with both values and the bits of the
--- inputs from the top level down
-abbrev pub answer : Circuit → Specification → Check → Verdict
-answer c s check =
+-- the answer to a check that meets no limit: the sides are equal, with the number of different nodes of the left side's
+-- canonical diagram, or they differ, with both values and the bits of the inputs from the top level down
+abbrev pub answer : KindName → Circuit → Specification → Check → Verdict
+answer k c s check =
     option_map_or (λ d. Different d.left d.right d.at)
     (first_difference (side c s check.left) (side c s check.right))
-    Equal
+    (Equal (node_count k s.letters (side c s check.left)))
 
 second_entry : first_difference (halves (entry (pos 1)) (entry (pos 2))) (halves (entry (pos 1)) (entry (negsuc 0)))
     ≡ Some (record { at = true ∷ []; left = pos 2; right = negsuc 0 })
@@ -76,5 +79,5 @@ third_entry = refl
 second_before_third : IsBefore (false ∷ true ∷ []) (true ∷ false ∷ []) ≡ Unit {0}
 second_before_third = refl
 
-half-answer : answer half half_adder half_adder_check ≡ Equal
+half-answer : answer Hdd half half_adder half_adder_check ≡ Equal 2
 half-answer = refl

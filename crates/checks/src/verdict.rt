@@ -4,7 +4,10 @@ use word_base::{Assign, Weight};
 #[derive(Debug, Drop)]
 pub enum Verdict {
     /// Both sides have the same values.
-    Equal,
+    Equal {
+        /// How many different nodes the diagram of the left side has.
+        nodes: u32,
+    },
     /// The sides differ: both values at the first assignment where they do.
     Different {
         left: Weight,

@@ -14,7 +14,7 @@ assignment names bits = flat_map (λ (name, bit). codes " " ++ name ++ codes "="
 
 -- the names are those of the inputs from the top level down
 abbrev pub verdict_text : List (List ℕ) → Verdict → List ℕ
-verdict_text names Equal = codes "equal"
+verdict_text names (Equal nodes) = codes "equal nodes " ++ decimal nodes
 verdict_text names (Different left right at) =
     codes "different left " ++ signed_decimal left ++ codes " right " ++ signed_decimal right ++ codes " at" ++ assignment names at
 verdict_text names Overflow = codes "overflow"
@@ -33,7 +33,7 @@ lines_from k names (verdict ∷ more) = verdict_line k names verdict ++ lines_fr
 abbrev pub report : List (List ℕ) → List Verdict → List ℕ
 report names verdicts = lines_from 1 names verdicts
 
-equal_sides : verdict_line 1 (codes "a" ∷ []) Equal ≡ codes "check 1 equal" ++ 10 ∷ []
+equal_sides : verdict_line 1 (codes "a" ∷ []) (Equal 12) ≡ codes "check 1 equal nodes 12" ++ 10 ∷ []
 unfolding digits
 equal_sides = refl
 
@@ -61,7 +61,7 @@ short_of_cells : verdict_line 1 [] Full ≡ codes "check 1 full" ++ 10 ∷ []
 unfolding digits
 short_of_cells = refl
 
-two_checks : report (codes "a" ∷ []) (Equal ∷ Different (pos 0) (pos 1) (true ∷ []) ∷ [])
-    ≡ codes "check 1 equal" ++ 10 ∷ codes "check 2 different left 0 right 1 at a=1" ++ 10 ∷ []
+two_checks : report (codes "a" ∷ []) (Equal 1 ∷ Different (pos 0) (pos 1) (true ∷ []) ∷ [])
+    ≡ codes "check 1 equal nodes 1" ++ 10 ∷ codes "check 2 different left 0 right 1 at a=1" ++ 10 ∷ []
 unfolding digits
 two_checks = refl

@@ -58,7 +58,7 @@ fn push_verdict(
         ++ verdict_text (map (name_of netlist.now) order.now) verdict.now) }
 {
     match verdict {
-        Verdict::Equal => text.push_str("equal"),
+        Verdict::Equal { nodes } => write!(text, "equal nodes {nodes}"),
         Verdict::Different { left, right, at } => {
             push_values(text, left, right)?;
             push_assignment(text, netlist, order, at)

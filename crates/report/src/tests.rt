@@ -31,7 +31,7 @@ fn each_check_has_a_line(rt: HostRuntime) -> Result<(), Fail> {
     assert_eq!(rt; netlist.inputs(), 2);
     let alloc = rt.alloc();
     let verdicts = [
-        Verdict::Equal,
+        Verdict::Equal { nodes: 12 },
         different(-1, i128::MAX, two_bits(alloc, false, true)?)?,
         Verdict::Overflow,
         Verdict::Full,
@@ -39,7 +39,7 @@ fn each_check_has_a_line(rt: HostRuntime) -> Result<(), Fail> {
     let written = verdict_lines(alloc, &netlist, &[0, 1], &verdicts)?;
     assert_eq!(rt;
         written.as_str(),
-        "check 1 equal\ncheck 2 different left -1 right 170141183460469231731687303715884105727 at a=0 b=1\ncheck 3 overflow\ncheck 4 full\n"
+        "check 1 equal nodes 12\ncheck 2 different left -1 right 170141183460469231731687303715884105727 at a=0 b=1\ncheck 3 overflow\ncheck 4 full\n"
     );
     Ok(())
 }
