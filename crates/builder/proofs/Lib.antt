@@ -1,3 +1,4 @@
+pub mod BelowLaws
 pub mod BothLaws
 pub mod CallLaws
 pub mod DifferenceLaws
@@ -8,6 +9,7 @@ pub mod JoinLaws
 pub mod LevelLaws
 pub mod MultipleCalls
 pub mod MultipleLaws
+pub mod NodeLists
 pub mod PartLaws
 pub mod ProductCalls
 pub mod ProductLaws

@@ -1,4 +1,6 @@
 pub mod Answers
+pub mod Below
 pub mod Calls
+pub mod Inside
 pub mod Products
 pub mod View

@@ -1,7 +1,9 @@
 //! Builders of word-level decision diagrams, over any kind, any letters and any store.
 #![tactic(auto)]
 
+mod below;
 mod builder;
+mod count;
 mod difference;
 mod limit;
 mod multiple;

@@ -85,7 +85,10 @@ fn two_levels<K: Kind>(
 {
     let levels = Levels::new(alloc, &[letter, letter])?;
     let store = SoloStore::create(alloc, cells)?;
-    Ok(Builder::create(store, levels))
+    match Builder::create(alloc, store, levels, cells) {
+        Ok(builder) => Ok(builder),
+        Err(_) => Err("no memory".into()),
+    }
 }
 
 /// Whether two terms have one edge.
@@ -153,4 +156,74 @@ fn a_store_of_one_node_is_full(rt: HostRuntime) -> Result<(), Fail> {
     check_causes(&rt, &mut two_levels::<Evbdd>(rt.alloc(), Decomp::S, 1)?)?;
     check_causes(&rt, &mut two_levels::<StarBmd>(rt.alloc(), Decomp::P, 1)?)?;
     check_causes(&rt, &mut two_levels::<KStarBmd>(rt.alloc(), Decomp::S, 1)?)
+}
+
+/// The number of different nodes among these ids, of which 0 is the leaf's.
+fn different(top: u32, low: u32, high: u32) -> u32 {
+    let second = low != 0 && low != top;
+    let third = high != 0 && high != top && high != low;
+    u32::from(top != 0) + u32::from(second) + u32::from(third)
+}
+
+/// The number of nodes of a term over two levels.
+fn nodes_of<K: Kind>(
+    rt: &impl Abort,
+    builder: &mut Builder<K, SoloStore>,
+    term: &Term,
+) -> Result<u32, Limit> {
+    let edge = term.edge(rt, builder)?;
+    let count = builder.count(edge);
+    assert!(rt; builder.levels() > 0);
+    let (low, high) = builder.parts(edge, 0)?;
+    assert_eq!(rt; count, different(edge.node, low.node, high.node));
+    assert_eq!(rt; builder.count(edge), count);
+    Ok(count)
+}
+
+/// The sum, the product and both together have these many nodes.
+fn check_counts<K: Kind>(
+    rt: &impl Abort,
+    builder: &mut Builder<K, SoloStore>,
+    counts: [u32; 3],
+) -> Result<(), Fail> {
+    let zero = Term::Constant(Weight::ZERO);
+    let sum = Term::Sum(&X, &Y);
+    let product = Term::Product(&X, &Y);
+    let both = Term::Sum(&sum, &product);
+    assert_eq!(rt; nodes_of(rt, builder, &zero)?, 0);
+    assert_eq!(rt; nodes_of(rt, builder, &X)?, 1);
+    assert_eq!(rt; nodes_of(rt, builder, &Y)?, 1);
+    assert_eq!(rt; nodes_of(rt, builder, &sum)?, counts[0]);
+    assert_eq!(rt; nodes_of(rt, builder, &product)?, counts[1]);
+    assert_eq!(rt; nodes_of(rt, builder, &both)?, counts[2]);
+    Ok(())
+}
+
+#[test]
+fn shared_nodes_count_once(rt: HostRuntime) -> Result<(), Fail> {
+    check_counts(
+        &rt,
+        &mut two_levels::<Hdd>(rt.alloc(), Decomp::S, 100)?,
+        [3, 2, 3],
+    )?;
+    check_counts(
+        &rt,
+        &mut two_levels::<Hdd>(rt.alloc(), Decomp::P, 100)?,
+        [2, 2, 3],
+    )?;
+    check_counts(
+        &rt,
+        &mut two_levels::<Evbdd>(rt.alloc(), Decomp::S, 100)?,
+        [2, 2, 3],
+    )?;
+    check_counts(
+        &rt,
+        &mut two_levels::<StarBmd>(rt.alloc(), Decomp::P, 100)?,
+        [2, 2, 3],
+    )?;
+    check_counts(
+        &rt,
+        &mut two_levels::<KStarBmd>(rt.alloc(), Decomp::S, 100)?,
+        [2, 2, 2],
+    )
 }
