@@ -122,10 +122,13 @@ none_marked k find cells = record {
   count = none_count cells;
 }
 
-pub leaf_marks : (k : KindName) (find : Lookup) (id : ℕ) (marks : List Bool) → find 0 ≡ None → id ≡ 0 → MarksNodes k find id marks marks
-leaf_marks k find id marks no_zero z s found shape met =
-    let is_leaf : s ≡ leaf = leaf_of_zero k find no_zero s (subst (λ (i : ℕ). HasShape k find i s) z shape) in
-    subst (λ (x : Shape). AreMarked k find marks (add_nodes x found)) (sym is_leaf) met
+-- an id whose shape adds no node to what was found: the leaf's, and one that is marked
+abbrev pub AddsNone : KindName → Lookup → ℕ → List Bool → Type 0
+AddsNone k find id marks = (s : Shape) (found : List Shape) → HasShape k find id s → AreMarked k find marks found → add_nodes s found ≡ found
+
+pub leaf_adds_none : (k : KindName) (find : Lookup) (id : ℕ) (marks : List Bool) → find 0 ≡ None → id ≡ 0 → AddsNone k find id marks
+leaf_adds_none k find id marks no_zero z s found shape met =
+    ap (λ (x : Shape). add_nodes x found) (leaf_of_zero k find no_zero s (subst (λ (i : ℕ). HasShape k find i s) z shape))
 
 -- the shape of an id that is marked was found
 was_found : (k : KindName) (find : Lookup) (id : ℕ) (s : Shape) (marks : List Bool) (found : List Shape) → find 0 ≡ None → 0 < id → HasShape k find id s →
@@ -134,9 +137,12 @@ was_found k find id s marks found no_zero above shape met h =
     let other = met.shapes id above h in
     subst (λ (x : Shape). has found x ≡ true) (same_shape_of_id k find no_zero id other.0 s other.1 shape) other.2
 
-pub marked_marks : (k : KindName) (find : Lookup) (id : ℕ) (marks : List Bool) → find 0 ≡ None → 0 < id → is_marked marks id ≡ true → MarksNodes k find id marks marks
-marked_marks k find id marks no_zero above h s found shape met =
-    subst (AreMarked k find marks) (sym (known_adds_none s found met.closed (was_found k find id s marks found no_zero above shape met h))) met
+pub marked_adds_none : (k : KindName) (find : Lookup) (id : ℕ) (marks : List Bool) → find 0 ≡ None → (id ≡ 0 → ⊥) → is_marked marks id ≡ true → AddsNone k find id marks
+marked_adds_none k find id marks no_zero apart h s found shape met =
+    let above : 0 < id = omega arith in known_adds_none s found met.closed (was_found k find id s marks found no_zero above shape met h)
+
+pub none_marks : (k : KindName) (find : Lookup) (id : ℕ) (marks : List Bool) → AddsNone k find id marks → MarksNodes k find id marks marks
+none_marks k find id marks none s found shape met = subst (AreMarked k find marks) (sym (none s found shape met)) met
 
 -- a node and its marks, before its own mark is set
 record IsMet (k : KindName) (find : Lookup) (id : ℕ) (marks : List Bool) (s : Shape) (below : List Shape) : Type 0 where
@@ -199,10 +205,7 @@ high_falls k find id low high no_zero step =
     subst (λ (i : ℕ). levels_left find i < levels_left find id) (sym step.high_is) (falls_below k find id n.fields.high n.fields no_zero n.fits n.known n.high n.high_deeper)
 
 -- ---- after the walks from both children
-pub record AreBothWalked (k : KindName) (find : Lookup) (id : ℕ) (old new : List Bool) : Type 0 where
-  pub low : ℕ
-  pub high : ℕ
-  pub next : List Bool
+pub record AreBothWalked (k : KindName) (find : Lookup) (id low high : ℕ) (old next new : List Bool) : Type 0 where
   pub numbered : IsNumbered find (length old)
   pub start : IsStart k find id
   pub apart : id ≡ 0 → ⊥
@@ -235,9 +238,19 @@ record IsWalked (k : KindName) (find : Lookup) (id : ℕ) (marks : List Bool) (s
   met : IsMet k find id marks s below
   added : add_nodes s found ≡ s ∷ below
 
-walked : (k : KindName) (find : Lookup) (id : ℕ) (old new : List Bool) (s : Shape) (found : List Shape) → AreBothWalked k find id old new → HasShape k find id s →
-    AreMarked k find old found → IsWalked k find id new s found
-walked k find id old new s found both shape met =
+-- the shapes of a node's children
+pub child_shapes : (k : KindName) (find : Lookup) (id low high l : ℕ) (a : Weights) (s : Shape) (b : Weights) (r : Shape) → IsStep k find id low high →
+    HasShape k find id (node l a s b r) → HasShape k find low s × HasShape k find high r
+child_shapes k find id low high l a s b r step h =
+    let n = step.inner in
+    let one : h.fields ≡ n.fields = body_of-tells h.fields n.fields h.fits n.fits (same_Some _ _ (sym h.known ∙ n.known)) in (
+      subst (λ (i : ℕ). HasShape k find i s) (ap (λ (f : Fields). f.low) one ∙ sym step.low_is) h.low,
+      subst (λ (i : ℕ). HasShape k find i r) (ap (λ (f : Fields). f.high) one ∙ sym step.high_is) h.high,
+    )
+
+walked : (k : KindName) (find : Lookup) (id low high : ℕ) (old next new : List Bool) (s : Shape) (found : List Shape) → AreBothWalked k find id low high old next new →
+    HasShape k find id s → AreMarked k find old found → IsWalked k find id new s found
+walked k find id low high old next new s found both shape met =
     at s shape (subst (Descends 0) (same_shape_of_id k find both.numbered.no_zero id both.start.shape s both.start.has_shape shape) both.start.descends)
   where
     at : (x : Shape) → HasShape k find id x → Descends 0 x → IsWalked k find id new x found
@@ -246,9 +259,7 @@ walked k find id old new s found both shape met =
         let apart = both.apart in
         let above : 0 < id = omega arith in
         let n = both.step.inner in
-        let one : h.fields ≡ n.fields = body_of-tells h.fields n.fields h.fits n.fits (same_Some _ _ (sym h.known ∙ n.known)) in
-        let low : HasShape k find both.low t = subst (λ (i : ℕ). HasShape k find i t) (ap (λ (f : Fields). f.low) one ∙ sym both.step.low_is) h.low in
-        let high : HasShape k find both.high r = subst (λ (i : ℕ). HasShape k find i r) (ap (λ (f : Fields). f.high) one ∙ sym both.step.high_is) h.high in
+        let children = child_shapes k find id low high l a t b r both.step h in
         let fresh = not_below k find id old l a t b r found above both.free h d.1 d.2 met in
         let within = both.numbered.within id (body_of n.fields) n.known in
         let cells = both.cells in
@@ -261,22 +272,23 @@ walked k find id old new s found both shape met =
             above = above;
             within = omega arith;
             shape = h;
-            met = both.highs r (add_nodes t found) high (both.lows t found low met);
+            met = both.highs r (add_nodes t found) children.1 (both.lows t found children.0 met);
             fresh = fresh;
           };
           added = ap (λ (x : Bool). if x then below else node l a t b r ∷ below) fresh;
         }
 
-pub still_free : (k : KindName) (find : Lookup) (id : ℕ) (old new : List Bool) (found : List Shape) → AreBothWalked k find id old new → AreMarked k find old found →
-    is_marked new id ≡ false
-still_free k find id old new found both met =
+pub still_free : (k : KindName) (find : Lookup) (id low high : ℕ) (old next new : List Bool) (found : List Shape) → AreBothWalked k find id low high old next new →
+    AreMarked k find old found → is_marked new id ≡ false
+still_free k find id low high old next new found both met =
     let s = both.start.shape in
-    let w = walked k find id old new s found both both.start.has_shape met in
+    let w = walked k find id low high old next new s found both both.start.has_shape met in
     met_is_free k find id new s w.below w.met
 
-pub marks_node : (k : KindName) (find : Lookup) (id : ℕ) (old new : List Bool) → AreBothWalked k find id old new → MarksNodes k find id old (with_mark new id)
-marks_node k find id old new both s found shape met =
-    let w = walked k find id old new s found both shape met in
+pub marks_node : (k : KindName) (find : Lookup) (id low high : ℕ) (old next new : List Bool) → AreBothWalked k find id low high old next new →
+    MarksNodes k find id old (with_mark new id)
+marks_node k find id low high old next new both s found shape met =
+    let w = walked k find id low high old next new s found both shape met in
     subst (AreMarked k find (with_mark new id)) (sym w.added)
     (marked_with k find id new s w.below w.met (subst IsClosed w.added (added_closed s found met.closed)))
 
@@ -284,11 +296,8 @@ marks_node k find id old new both s found shape met =
 pub both_walked : (k : KindName) (v u w : StoreView) (id low high : ℕ) (body : List ℕ) (old next new : List Bool) (was : Bool) → IsStart k (find_in v) id →
     IsNumbered (find_in v) (length old) → (id ≡ 0 → ⊥) → was ≡ is_marked old id → was ≡ false → find_in v id ≡ Some body → u ≡ v →
     Reads body (λ f. low ≡ f.low) → Reads body (λ f. high ≡ f.high) → w ≡ u → length next ≡ length old → MarksNodes k (find_in u) low old next →
-    length new ≡ length next → MarksNodes k (find_in w) high next new → AreBothWalked k (find_in v) id old new
+    length new ≡ length next → MarksNodes k (find_in w) high next new → AreBothWalked k (find_in v) id low high old next new
 both_walked k v u w id low high body old next new was start numbered apart test unmarked known first low_reads high_reads second next_cells lows new_cells highs = record {
-  low = low;
-  high = high;
-  next = next;
   numbered = numbered;
   start = start;
   apart = apart;

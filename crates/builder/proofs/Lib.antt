@@ -1,9 +1,11 @@
 pub mod BelowLaws
 pub mod BothLaws
 pub mod CallLaws
+pub mod ContentLaws
 pub mod DifferenceLaws
 pub mod EachLaws
 mod Examples
+pub mod GatherLaws
 pub mod JoinCauses
 pub mod JoinLaws
 pub mod LevelLaws

@@ -1,6 +1,7 @@
 pub mod Answers
 pub mod Below
 pub mod Calls
+pub mod Contents
 pub mod Inside
 pub mod Products
 pub mod View

@@ -3,6 +3,7 @@
 
 mod below;
 mod builder;
+mod content;
 mod count;
 mod difference;
 mod limit;

@@ -3,7 +3,7 @@ use Rattle.std.proofs.lemmas.Option.{same_Some}
 use Rattle.kinds.specs.Body.{body_of}
 use Rattle.record_store.specs.StoreView.{StoreView, find_in}
 use Rattle.builder.specs.Below.{IsStart, IsNumbered, AreMarked, MarksNodes}
-use Rattle.builder.proofs.BelowLaws.{inner_at, leaf_marks, marked_marks, step_at, low_starts, high_starts, low_falls, high_falls, levels_left, both_walked, still_free, marks_node, numbered_still, low_marked}
+use Rattle.builder.proofs.BelowLaws.{inner_at, AddsNone, leaf_adds_none, marked_adds_none, none_marks, step_at, low_starts, high_starts, low_falls, high_falls, levels_left, both_walked, still_free, marks_node, numbered_still, low_marked}
 use Rattle.builder.proofs.below.+mark_below.Goals as goal
 use Rattle.builder.proofs.below.+mark_below.Goals.{then-id-eq0-via-then-id-eq0, then-id-eq0-via-else-id-eq0+then-has}
 
@@ -16,13 +16,11 @@ pub returns-then-id-eq0-clause-marks : goal.returns-then-id-eq0-clause-marks
 returns-then-id-eq0-clause-marks g t c =
     let k = g.K.Kind.NAME in
     let find = find_in (g.S.Store.view c.args.store.now) in
-    elim c.then-id-eq0.branch [
-      | then-id-eq0-via-then-id-eq0 w ↦ leaf_marks k find c.args.id c.args.marks.now c.requires.numbered.no_zero w.if-id-eq0.true
-      | then-id-eq0-via-else-id-eq0+then-has w ↦
-          let apart = w.if-id-eq0.false in
-          let above : 0 < c.args.id = omega arith in
-          marked_marks k find c.args.id c.args.marks.now c.requires.numbered.no_zero above (sym w.has.ensures ∙ w.if-has.true)
-    ]
+    let no_zero = c.requires.numbered.no_zero in
+    none_marks k find c.args.id c.args.marks.now (elim c.then-id-eq0.branch as (λ _. AddsNone k find c.args.id c.args.marks.now) [
+      | then-id-eq0-via-then-id-eq0 w ↦ leaf_adds_none k find c.args.id c.args.marks.now no_zero w.if-id-eq0.true
+      | then-id-eq0-via-else-id-eq0+then-has w ↦ marked_adds_none k find c.args.id c.args.marks.now no_zero w.if-id-eq0.false (sym w.has.ensures ∙ w.if-has.true)
+    ])
 
 pub fields-requires : goal.fields-requires
 fields-requires g t c =
@@ -131,7 +129,7 @@ mark-requires-clause-free g t c =
     c.args.marks.now c.mark_below.new.marks c.mark_below-2.new.marks c.has.result c.requires.start c.requires.numbered c.if-id-eq0.false c.has.ensures c.if-has.false
     c.fields.ensures.body c.fields.ensures.unchanged c.children-low.ensures.low c.children-low.ensures.high c.mark_below.ensures.unchanged c.mark_below.ensures.cells
     c.mark_below.ensures.marks c.mark_below-2.ensures.cells c.mark_below-2.ensures.marks in
-    still_free k (find_in v) c.args.id c.args.marks.now c.mark_below-2.new.marks c.requires.met.0 both c.requires.met.1
+    still_free k (find_in v) c.args.id c.children-low.result.0 c.children-low.result.1 c.args.marks.now c.mark_below.new.marks c.mark_below-2.new.marks c.requires.met.0 both c.requires.met.1
 
 pub returns-clause-marks : goal.returns-clause-marks
 returns-clause-marks g t c =
@@ -142,4 +140,4 @@ returns-clause-marks g t c =
     c.args.marks.now c.mark_below.new.marks c.mark_below-2.new.marks c.has.result c.requires.start c.requires.numbered c.if-id-eq0.false c.has.ensures c.if-has.false
     c.fields.ensures.body c.fields.ensures.unchanged c.children-low.ensures.low c.children-low.ensures.high c.mark_below.ensures.unchanged c.mark_below.ensures.cells
     c.mark_below.ensures.marks c.mark_below-2.ensures.cells c.mark_below-2.ensures.marks in
-    subst (MarksNodes k (find_in v) c.args.id c.args.marks.now) (sym c.mark.ensures) (marks_node k (find_in v) c.args.id c.args.marks.now c.mark_below-2.new.marks both)
+    subst (MarksNodes k (find_in v) c.args.id c.args.marks.now) (sym c.mark.ensures) (marks_node k (find_in v) c.args.id c.children-low.result.0 c.children-low.result.1 c.args.marks.now c.mark_below.new.marks c.mark_below-2.new.marks both)
