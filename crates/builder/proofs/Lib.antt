@@ -1,14 +1,18 @@
+pub mod BelowLaws
 pub mod BothLaws
 pub mod CallLaws
+pub mod ContentLaws
 pub mod DifferenceLaws
 pub mod EachLaws
 mod Examples
+pub mod GatherLaws
 pub mod HalfLaws
 pub mod JoinCauses
 pub mod JoinLaws
 pub mod LevelLaws
 pub mod MultipleCalls
 pub mod MultipleLaws
+pub mod NodeLists
 pub mod PartLaws
 pub mod ProductCalls
 pub mod ProductLaws

@@ -1,4 +1,4 @@
-ghost use Rattle.std.specs.Prelude.{◌≡◌, ◌≢◌, ℕ, ◌<◌, ◌≤◌, ◌↔◌, Some, None, length, drop, true, IsTrue};
+ghost use Rattle.std.specs.Prelude.{◌≡◌, ◌≢◌, ℕ, ◌<◌, ◌≤◌, ◌↔◌, Some, None, IfOk, IfErr, length, drop, true, IsTrue};
 ghost use Rattle.tables.specs.Table.{Table, constant_table};
 ghost use Rattle.tables.specs.Laws.{are_allowed};
 ghost use Rattle.kinds.specs.Kind.{IsNodeBody};
@@ -10,20 +10,25 @@ ghost use Rattle.builder.specs.View.{View, letter_at, StandsAt, IsEdge, top_of, 
 
 use crate::limit::Limit;
 use kinds::{Edge, Joined, Kind, level_of};
+use marks::Marks;
 use record_store::{Store, StoreFull};
+use std::alloc::Global;
 use std::marker::{Model, PhantomData};
 use word_base::{Decomp, Levels, Overflow, Weight};
 
 /// A store of nodes, and the levels that they stand at.
 #[derive(Drop)]
 pub struct Builder<K: Kind, S: Store> {
-    store: S,
+    pub(crate) store: S,
     levels: Levels,
+    /// The nodes that a walk has met.
+    pub(crate) marks: Marks,
     kind: PhantomData<K>,
 }
 
 impl<K: Kind, S: Store> Model for Builder<K, S> {
-    ghost use Rattle.builder.specs.View.{View, view_code, IsGood};
+    ghost use Rattle.builder.specs.Inside.{IsSound};
+    ghost use Rattle.builder.specs.View.{View, view_code};
 
     ghost Value = { View };
 
@@ -31,20 +36,32 @@ impl<K: Kind, S: Store> Model for Builder<K, S> {
 
     ghost view = { λ b. record { store = S.view b.store; letters = b.levels } };
 
-    ghost invariant = { λ b. IsGood K.NAME (record { store = S.view b.store; letters = b.levels }) };
+    ghost invariant = { λ b. IsSound K.NAME (record { store = S.view b.store; letters = b.levels }) b.marks };
 }
 
 impl<K: Kind, S: Store> Builder<K, S> {
-    /// A builder over a store that knows no node, with levels whose letters the kind allows.
-    pub fn create(store: S, levels: Levels) -> Builder<K, S>
+    /// A builder over a store that knows no node, with levels whose letters the kind allows. It takes the marks of so many
+    /// nodes here. Where there is no memory for them it hands both values back.
+    pub fn create(
+        alloc: Global,
+        store: S,
+        levels: Levels,
+        cells: u32,
+    ) -> Result<Builder<K, S>, (S, Levels)>
         requires empty { (id : ℕ) → find_in (S.view store) id ≡ None }
         requires allowed { are_allowed K.NAME levels ≡ true }
-        ensures { result ≡ record { store = S.view store; letters = levels } }
+        requires room { (S.view store).room ≤ cells }
+        ensures made { IfOk result (λ b. b ≡ record { store = S.view store; letters = levels }) }
+        ensures handed_back { IfErr result (λ both. both ≡ (store, levels)) }
     {
-        Builder {
-            store,
-            levels,
-            kind: PhantomData,
+        match Marks::create(alloc, cells) {
+            Ok(marks) => Ok(Builder {
+                store,
+                levels,
+                marks,
+                kind: PhantomData,
+            }),
+            Err(_) => Err((store, levels)),
         }
     }
 

@@ -1,8 +1,11 @@
 //! Builders of word-level decision diagrams, over any kind, any letters and any store.
 #![tactic(auto)]
 
+mod below;
 mod builder;
 mod cofactor;
+mod content;
+mod count;
 mod difference;
 mod limit;
 mod multiple;

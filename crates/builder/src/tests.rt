@@ -91,7 +91,10 @@ fn two_levels<K: Kind>(
 {
     let levels = Levels::new(alloc, letters)?;
     let store = SoloStore::create(alloc, cells)?;
-    Ok(Builder::create(store, levels))
+    match Builder::create(alloc, store, levels, cells) {
+        Ok(builder) => Ok(builder),
+        Err(_) => Err("no memory".into()),
+    }
 }
 
 /// Whether two terms have one edge.
@@ -452,4 +455,119 @@ fn halves_of_halves_are_values(rt: HostRuntime) -> Result<(), Fail> {
         &rt,
         &mut two_levels::<StarBmd>(rt.alloc(), &POSITIVE, 1000)?,
     )
+}
+
+/// The number of different nodes among these ids, of which 0 is the leaf's.
+fn different(top: u32, low: u32, high: u32) -> u32 {
+    let second = low != 0 && low != top;
+    let third = high != 0 && high != top && high != low;
+    u32::from(top != 0) + u32::from(second) + u32::from(third)
+}
+
+/// The number of nodes of a term over two levels.
+fn nodes_of<K: Kind>(
+    rt: &impl Abort,
+    builder: &mut Builder<K, SoloStore>,
+    term: &Term,
+) -> Result<u32, Limit> {
+    let edge = term.edge(rt, builder)?;
+    let count = builder.count(edge);
+    assert!(rt; builder.levels() > 0);
+    let (low, high) = builder.parts(edge, 0)?;
+    assert_eq!(rt; count, different(edge.node, low.node, high.node));
+    assert_eq!(rt; builder.count(edge), count);
+    Ok(count)
+}
+
+/// The sum, the product and both together have these many nodes.
+fn check_counts<K: Kind>(
+    rt: &impl Abort,
+    builder: &mut Builder<K, SoloStore>,
+    counts: [u32; 3],
+) -> Result<(), Fail> {
+    let zero = Term::Constant(Weight::ZERO);
+    let sum = Term::Sum(&X, &Y);
+    let product = Term::Product(&X, &Y);
+    let both = Term::Sum(&sum, &product);
+    assert_eq!(rt; nodes_of(rt, builder, &zero)?, 0);
+    assert_eq!(rt; nodes_of(rt, builder, &X)?, 1);
+    assert_eq!(rt; nodes_of(rt, builder, &Y)?, 1);
+    assert_eq!(rt; nodes_of(rt, builder, &sum)?, counts[0]);
+    assert_eq!(rt; nodes_of(rt, builder, &product)?, counts[1]);
+    assert_eq!(rt; nodes_of(rt, builder, &both)?, counts[2]);
+    Ok(())
+}
+
+#[test]
+fn shared_nodes_count_once(rt: HostRuntime) -> Result<(), Fail> {
+    check_counts(
+        &rt,
+        &mut two_levels::<Hdd>(rt.alloc(), Decomp::S, 100)?,
+        [3, 2, 3],
+    )?;
+    check_counts(
+        &rt,
+        &mut two_levels::<Hdd>(rt.alloc(), Decomp::P, 100)?,
+        [2, 2, 3],
+    )?;
+    check_counts(
+        &rt,
+        &mut two_levels::<Evbdd>(rt.alloc(), Decomp::S, 100)?,
+        [2, 2, 3],
+    )?;
+    check_counts(
+        &rt,
+        &mut two_levels::<StarBmd>(rt.alloc(), Decomp::P, 100)?,
+        [2, 2, 3],
+    )?;
+    check_counts(
+        &rt,
+        &mut two_levels::<KStarBmd>(rt.alloc(), Decomp::S, 100)?,
+        [2, 2, 2],
+    )
+}
+
+fn number(rt: &impl Abort, value: i128) -> Weight {
+    Weight::new(value).expect(rt, "a number in range")
+}
+
+fn content_of<K: Kind>(
+    rt: &impl Abort,
+    builder: &mut Builder<K, SoloStore>,
+    term: &Term,
+) -> Result<i128, Limit> {
+    let edge = term.edge(rt, builder)?;
+    Ok(builder.content(edge).get())
+}
+
+fn check_contents<K: Kind>(
+    rt: &impl Abort,
+    builder: &mut Builder<K, SoloStore>,
+) -> Result<(), Fail> {
+    let twice = Term::Multiple(number(rt, 2), &X);
+    let four_times = Term::Multiple(number(rt, 4), &Y);
+    let six_times = Term::Multiple(number(rt, 6), &X);
+    let sum = Term::Sum(&twice, &four_times);
+    assert_eq!(rt; content_of(rt, builder, &sum)?, 2);
+    assert_eq!(rt; content_of(rt, builder, &Term::Constant(Weight::ZERO))?, 0);
+    assert_eq!(rt;
+        content_of(rt, builder, &Term::Constant(number(rt, -6)))?,
+        6
+    );
+    assert_eq!(rt; content_of(rt, builder, &Term::Negative(&six_times))?, 6);
+    let with_three = Term::Sum(&six_times, &Term::Constant(number(rt, -3)));
+    assert_eq!(rt; content_of(rt, builder, &with_three)?, 3);
+    let greatest = Term::Constant(Weight::MAX);
+    assert_eq!(rt; content_of(rt, builder, &greatest)?, i128::MAX);
+    Ok(())
+}
+
+#[test]
+fn contents_of_terms(rt: HostRuntime) -> Result<(), Fail> {
+    for letter in [Decomp::S, Decomp::P, Decomp::N] {
+        check_contents(&rt, &mut two_levels::<Hdd>(rt.alloc(), letter, 100)?)?;
+        check_contents(&rt, &mut two_levels::<KStarBmd>(rt.alloc(), letter, 100)?)?;
+    }
+    check_contents(&rt, &mut two_levels::<Evbdd>(rt.alloc(), Decomp::S, 100)?)?;
+    check_contents(&rt, &mut two_levels::<StarBmd>(rt.alloc(), Decomp::P, 100)?)
 }
