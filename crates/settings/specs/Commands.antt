@@ -1,11 +1,12 @@
 -- Commands in plain form: `check`, pairs and two names; `gen`, pairs and a size.
-use Rattle.std.specs.Prelude.{ℕ, ◌&&◌, List, [], ◌∷◌, codes, Option, Some, None, if◌then◌else◌}
+use Rattle.std.specs.Prelude.{ℕ, ◌≤◌, ◌&&◌, List, [], ◌∷◌, codes, Option, Some, None, if◌then◌else◌}
 use Rattle.std.specs.Option.{option_and_then, option_map}
 use Rattle.std.specs.Str.{bytes_eq}
 use Rattle.settings.specs.declared.command.Command.{Command}
 use Rattle.settings.specs.declared.command.Command.TheVariants as commands
 use Rattle.settings.specs.declared.command.Settings.{Settings}
-use Rattle.settings.specs.Limits.{settings_of}
+use Rattle.settings.specs.declared.limits.TheConstants.{LEAST_SIZE, MOST_SIZE}
+use Rattle.settings.specs.Limits.{AreWithin, settings_of}
 use Rattle.settings.specs.Numbers.{size_of}
 use Rattle.settings.specs.Pairs.{nothing, pairs}
 use Rattle.settings.specs.Words.{is_name}
@@ -14,6 +15,11 @@ use Rattle.settings.specs.Words.{is_name}
 pub data PlainCommand : Type 0 where
   check : Settings → List ℕ → List ℕ → PlainCommand
   gen : Settings → ℕ → PlainCommand
+
+-- the limits of a command's numbers
+abbrev pub IsWithinLimits : PlainCommand → Type 0
+IsWithinLimits (check settings netlist spec) = AreWithin settings
+IsWithinLimits (gen settings size) = AreWithin settings × (LEAST_SIZE ≤ size) × (size ≤ MOST_SIZE)
 
 abbrev pub said : Command → PlainCommand
 said (commands.Check settings netlist spec) = check settings netlist.now spec.now

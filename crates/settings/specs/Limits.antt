@@ -1,5 +1,5 @@
 -- Settings and their limits.
-use Rattle.std.specs.Prelude.{◌≡◌, ℕ, ◌==◌, ◌*◌, ◌%◌, Bool, true, false, ◌&&◌, nat_le, unwrap_or, Option, Some, None, if◌then◌else◌, refl}
+use Rattle.std.specs.Prelude.{◌≡◌, ℕ, ◌==◌, ◌*◌, ◌%◌, ◌≤◌, Bool, true, false, ◌&&◌, nat_le, unwrap_or, Option, Some, None, if◌then◌else◌, refl}
 use Rattle.checks.specs.declared.method.Method.TheVariants.{Forward}
 use Rattle.word_base.specs.declared.kind_name.KindName.TheVariants.{StarBmd}
 use Rattle.settings.specs.declared.command.Settings.{Settings}
@@ -11,6 +11,14 @@ abbrev pub is_within : ℕ → ℕ → Bool
 is_within workers cells =
     nat_le 1 workers && nat_le workers MOST_WORKERS && (cells % CELLS_OF_WORKER == 0)
     && nat_le (CELLS_OF_WORKER * workers) cells && nat_le cells MOST_CELLS
+
+-- the same as facts
+pub record AreWithin (s : Settings) : Type 0 where
+  pub some_worker : 1 ≤ s.workers
+  pub few_workers : s.workers ≤ MOST_WORKERS
+  pub whole : s.cells % CELLS_OF_WORKER ≡ 0
+  pub enough_cells : CELLS_OF_WORKER * s.workers ≤ s.cells
+  pub few_cells : s.cells ≤ MOST_CELLS
 
 -- the usual value stands for what is not given
 abbrev pub with_usual : Given → Settings

@@ -1,6 +1,6 @@
 ghost use Rattle.std.specs.Prelude.{◌≡◌, IfSome};
 ghost use Rattle.std.specs.Option.{option_map};
-ghost use Rattle.settings.specs.Commands.{check_of, command_by, command_of, gen_of, said};
+ghost use Rattle.settings.specs.Commands.{IsWithinLimits, check_of, command_by, command_of, gen_of, said};
 ghost use Rattle.settings.specs.Words.{texts};
 
 use crate::command::{Command, Settings};
@@ -52,7 +52,8 @@ fn command_by<'a>(command: &str, settings: Settings, last: &[&'a str]) -> Option
 
 /// The command that the words behind the program's name say in plain form.
 pub fn command_of<'a>(words: &[&'a str]) -> Option<Command<'a>>
-    ensures { option_map said result ≡ command_of (texts words.now) }
+    ensures said { option_map said result ≡ command_of (texts words.now) }
+    ensures limits { IfSome result (λ command. IsWithinLimits (said command)) }
 {
     let [command, more @ ..] = words else {
         return None;
