@@ -1,0 +1,6 @@
+pub mod Words
+pub mod Numbers
+pub mod Pairs
+pub mod Limits
+pub mod Commands
+pub mod Examples
