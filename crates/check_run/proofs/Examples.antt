@@ -1,17 +1,19 @@
 -- Whole runs over the half adder's files.
 use Rattle.word_base.specs.declared.kind_name.KindName.TheVariants.{Hdd}
-use Rattle.std.proofs.Common.{refl, ℕ, List, [], inl, inr, lit≤}
-use Rattle.std.specs.Prelude.{codes, Some, None}
+use Rattle.std.proofs.Common.{◌≡◌, refl, sym, subst, ℕ, zero, suc, List, [], ◌∷◌, inl, inr, lit≤}
+use Rattle.std.specs.Prelude.{codes, Some, None, slice_get}
 use Rattle.std.specs.Fmt.{digits}
 use Rattle.circuits.specs.Examples.{half}
 use Rattle.spec_lang.specs.Specification.{half_adder, half_adder_check}
+use Rattle.checks.specs.declared.verdict.Verdict.{Verdict}
 use Rattle.checks.specs.declared.verdict.Verdict.TheVariants.{Equal}
 use Rattle.check_run.specs.declared.status.Status.TheVariants.{Done, ReadFault}
 use Rattle.check_run.specs.Files.{half_spec, half_text, two_files}
 use Rattle.check_run.specs.Outside.{Files, Outside}
 use Rattle.check_run.specs.Reading.{FailsToRead}
 use Rattle.check_run.specs.Run.{IsRun}
-use Rattle.check_run.specs.Words.{check_n_s, n_and_s}
+use Rattle.check_run.specs.Verdicts.{IsReported}
+use Rattle.check_run.specs.Words.{by_hdd, check_n_s, n_and_s}
 use Rattle.check_run.proofs.RunLaws.{failed_to_read, text_written}
 
 -- a shelf of these files that was asked so often, and a sink that was given these bytes
@@ -24,23 +26,23 @@ at files fetches written = record {
 abbrev both : Files
 both = two_files half_text (Some half_spec)
 
-one_verdict : (place : ℕ) (verdict : Verdict) → slice_get (Equal ∷ []) place ≡ Some verdict → IsReported Hdd half half_adder place verdict
-one_verdict zero verdict is = (half_adder_check, refl, ?)
-one_verdict (suc place) verdict is = ?
+one_verdict : (place : ℕ) (verdict : Verdict) → slice_get (Equal 2 ∷ []) place ≡ Some verdict → IsReported Hdd 262144 half half_adder place verdict
+one_verdict zero verdict is = let same : (Equal 2) ≡ verdict = cc in subst (IsReported Hdd 262144 half half_adder 0) same (half_adder_check, refl, refl)
+one_verdict (suc place) verdict is = absurd (cc)
 
-half-runs : IsRun check_n_s (at both 0 []) (at both 2 (codes "check 1 equal\n")) Done
+half-runs : IsRun check_n_s (at both 0 []) (at both 2 (codes "check 1 equal nodes 2\n")) Done
 unfolding digits
 half-runs =
-    text_written check_n_s (at both 0 []) (at both 2 (codes "check 1 equal\n")) (codes "check 1 equal\n") Done refl refl
+    text_written check_n_s (at both 0 []) (at both 2 (codes "check 1 equal nodes 2\n")) (codes "check 1 equal nodes 2\n") Done refl refl
     (inr (
-      Hdd,
+      by_hdd,
       half,
       half_adder,
-      Equal ∷ [],
+      Equal 2 ∷ [],
       record {
         names = n_and_s;
         named = refl;
-        kind = refl;
+        settings = refl;
         netlist = (half_text, record { whole = refl; within = lit≤ tt }, refl);
         spec = (half_spec, record { whole = refl; within = lit≤ tt }, refl);
         fetches = refl;
@@ -64,6 +66,6 @@ no_third_fetch : (written : List ℕ) → IsRun check_n_s (at one 0 []) (at one 
 no_third_fetch written run = by_stop (run.read_fault refl)
   where
     by_stop : FailsToRead check_n_s (at one 0 []).shelf (at one 3 written).shelf → ⊥
-    by_stop (inl (none, never, nothing)) = nothing
+    by_stop (inl (refusal, none, never, nothing)) = nothing
     by_stop (inr (names, named, inl (once, unread))) = cc
     by_stop (inr (names, named, inr (c, says, twice, unread))) = cc

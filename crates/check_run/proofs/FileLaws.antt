@@ -5,7 +5,7 @@ use Rattle.circuits.specs.Circuit.{Circuit}
 use Rattle.bench_reader.specs.Reading as bench
 use Rattle.bench_reader.specs.declared.fault.BenchError.{BenchError}
 use Rattle.bench_reader.specs.declared.fault.BenchError.TheVariants as bench_error
-use Rattle.spec_grammar.specs.Reading as spec
+use Rattle.spec_grammar.specs.Reading as grammar
 use Rattle.spec_grammar.specs.declared.fault.SpecError.{SpecError}
 use Rattle.spec_grammar.specs.declared.fault.SpecError.TheVariants as spec_error
 use Rattle.spec_lang.specs.Specification.{Specification}
@@ -38,14 +38,14 @@ netlist_not_read old new name bytes error (Err s) is same reads said =
     (netlist_stopped old new name bytes error is same reads)
 
 spec_stopped : (old new : ShelfSeen) (name bytes : List ℕ) (k : KindName) (c : Circuit) (error : SpecError) → IsText old.files name bytes → new.faults ≡ old.faults →
-    spec.IsFaultOf error (spec.reading c k bytes) →
+    grammar.IsFaultOf error (grammar.reading c k bytes) →
     ComesTo {X = Specification} (SaysSpec old.files name k c) (RefusesSpec old.files name k c) old new name (Err (stop_of_spec error))
 spec_stopped old new name bytes k c (spec_error.Fault fault) is same reads = (inr (bytes, fault, is, reads, refl), same)
 spec_stopped old new name bytes k c spec_error.Memory is same _ = (text_is_there old.files name bytes is, same)
 
 -- a specification that was fetched was not read
 pub spec_not_read : (old new : ShelfSeen) (name bytes : List ℕ) (k : KindName) (c : Circuit) (error : SpecError) (r : Result Specification Stop) → IsText old.files name bytes →
-    new.faults ≡ old.faults → spec.IsFaultOf error (spec.reading c k bytes) → IsErrAnd r (λ s. s ≡ stop_of_spec error) →
+    new.faults ≡ old.faults → grammar.IsFaultOf error (grammar.reading c k bytes) → IsErrAnd r (λ s. s ≡ stop_of_spec error) →
     ComesTo (SaysSpec old.files name k c) (RefusesSpec old.files name k c) old new name r
 spec_not_read old new name bytes k c error (Ok s) is same reads said = absurd said
 spec_not_read old new name bytes k c error (Err s) is same reads said =

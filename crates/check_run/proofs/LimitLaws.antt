@@ -34,7 +34,6 @@ use Rattle.record_store.specs.Solo.{IsSoloView}
 use Rattle.record_store.specs.StoreView.{find_in}
 use Rattle.builder.specs.Answers.{HasNodeShape}
 use Rattle.builder.specs.View.{View}
-use Rattle.check_run.specs.declared.decide.TheConstants.{CELLS}
 
 -- ---- over the range
 list_fails : {X : Type 0} (p : X → Bool) (xs : List X) (x : X) → Contains xs x → p x ≡ false → list_all p xs ≡ false
@@ -151,17 +150,17 @@ module _ (k : KindName) (find : Lookup) (nodes : List Shape) (no_twice : (i j : 
 
 -- ---- short of cells
 -- where a store that is spent holds nodes of the work alone, the check is short of cells
-pub short_of_spent : (k : KindName) (c : Circuit) (s : Specification) (check : Check) (v : View) (count : ℕ) → v.letters ≡ s.letters → v.store.room ≡ CELLS →
+pub short_of_spent : (k : KindName) (cells : ℕ) (c : Circuit) (s : Specification) (check : Check) (v : View) (count : ℕ) → v.letters ≡ s.letters → v.store.room ≡ cells →
     IsSoloView v.store count → IsTrue v.store.spent → ((id : ℕ) → Contains v.store.made id → HasNodeShape k v (forward_work c s check) id) →
-    short k Forward 1 CELLS c s check ≡ true
-short_of_spent k c s check v count letters room solo spent made =
+    short k Forward 1 cells c s check ≡ true
+short_of_spent k cells c s check v count letters room solo spent made =
     let nodes = nodes_of k s.letters (forward_work c s check) in
     let fewer = as_many k (find_in v.store) nodes solo.distinct v.store.made solo.made_once (λ id has. in_work id (made id has)) in
     let many : length v.store.made ≡ count = ap length solo.made ∙ length-range_with_len 1 count in
     let full : count ≡ v.store.room = solo.spent.0 spent in
     short_of (need k Forward c s check) (omega (arith, fewer, many, full, room))
   where
-    short_of : (n : ℕ) → CELLS ≤ n → nat_le CELLS (n + 256 * (1 - 1)) ≡ true
+    short_of : (n : ℕ) → cells ≤ n → nat_le cells (n + 256 * (1 - 1)) ≡ true
     short_of n h = grind (arith, nat_tests)
 
     in_work : (id : ℕ) → HasNodeShape k v (forward_work c s check) id → (x : Shape) × (has (nodes_of k s.letters (forward_work c s check)) x ≡ true) × HasShape k (find_in v.store) id x

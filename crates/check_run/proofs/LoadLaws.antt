@@ -3,6 +3,7 @@ use Rattle.std.proofs.Common.{◌≡◌, sym, ◌∙◌, ap, subst, ℕ, List, i
 use Rattle.std.specs.Prelude.{IsErrAnd, Result, Some, Ok, Err}
 use Rattle.circuits.specs.Circuit.{Circuit}
 use Rattle.spec_lang.specs.Specification.{Specification}
+use Rattle.settings.specs.declared.command.Settings.{Settings}
 use Rattle.word_base.specs.declared.kind_name.KindName.{KindName}
 use Rattle.outside.specs.Count.{raised}
 use Rattle.outside.specs.Shelf.{Lacks}
@@ -28,12 +29,12 @@ unread_since old mid new name midway (inr (lacks, same)) =
 twice : (old mid new : ShelfSeen) → IsMidway old mid → new.fetches ≡ raised mid.fetches → new.fetches ≡ raised (raised old.fetches)
 twice old mid new midway once = once ∙ ap raised midway.fetches
 
-spec_stopped : (words : List (List ℕ)) (old mid new : ShelfSeen) (names : Names) (c : Circuit) (s : Stop) → names_of words ≡ Some names →
+spec_stopped : (words : List (List ℕ)) (old mid new : ShelfSeen) (names : Names) (c : Circuit) (s : Stop) → names_of words ≡ Ok names →
     IsMidway old mid → SaysNetlist old.files names.netlist c → new.fetches ≡ raised mid.fetches →
-    ComesTo {X = Specification} (SaysSpec mid.files names.spec names.kind c) (RefusesSpec mid.files names.spec names.kind c) mid new names.spec (Err s) →
+    ComesTo {X = Specification} (SaysSpec mid.files names.spec names.settings.kind c) (RefusesSpec mid.files names.spec names.settings.kind c) mid new names.spec (Err s) →
     Loads words old new (Err s)
 spec_stopped words old mid new names c (stop.Refused r) is midway says once (refuses, same) = (
-  inr (names, is, inr (c, says, twice old mid new midway once, subst (λ (f : Files). RefusesSpec f names.spec names.kind c r) midway.files refuses)),
+  inr (names, is, inr (c, says, twice old mid new midway once, subst (λ (f : Files). RefusesSpec f names.spec names.settings.kind c r) midway.files refuses)),
   same ∙ midway.faults,
 )
 spec_stopped words old mid new names c stop.ReadFault is midway says once unread =
@@ -43,9 +44,9 @@ spec_stopped words old mid new names c stop.Memory is midway says once (there, s
   same ∙ midway.faults,
 )
 
-pub spec_stops : (words : List (List ℕ)) (old mid new : ShelfSeen) (names : Names) (c : Circuit) (s : Stop) (r : Result (KindName × Circuit × Specification) Stop) → names_of words ≡ Some names →
+pub spec_stops : (words : List (List ℕ)) (old mid new : ShelfSeen) (names : Names) (c : Circuit) (s : Stop) (r : Result (Settings × Circuit × Specification) Stop) → names_of words ≡ Ok names →
     IsMidway old mid → SaysNetlist old.files names.netlist c → new.fetches ≡ raised mid.fetches →
-    ComesTo {X = Specification} (SaysSpec mid.files names.spec names.kind c) (RefusesSpec mid.files names.spec names.kind c) mid new names.spec (Err s) →
+    ComesTo {X = Specification} (SaysSpec mid.files names.spec names.settings.kind c) (RefusesSpec mid.files names.spec names.settings.kind c) mid new names.spec (Err s) →
     IsErrAnd r (λ x. x ≡ s) → Loads words old new r
 spec_stops words old mid new names c s (Ok both) is midway says once stops same = absurd same
 spec_stops words old mid new names c s (Err other) is midway says once stops same =

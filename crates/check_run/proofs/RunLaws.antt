@@ -8,7 +8,8 @@ use Rattle.std.proofs.lemmas.Option.{same_Some}
 use Rattle.circuits.specs.Circuit.{Circuit}
 use Rattle.bench_reader.specs.Reading as bench
 use Rattle.spec_lang.specs.Specification.{Check, Specification}
-use Rattle.spec_grammar.specs.Reading as spec
+use Rattle.spec_grammar.specs.Reading as grammar
+use Rattle.settings.specs.declared.command.Settings.{Settings}
 use Rattle.word_base.specs.declared.kind_name.KindName.{KindName}
 use Rattle.checks.specs.Answer.{answer}
 use Rattle.checks.specs.declared.verdict.Verdict.{Verdict}
@@ -41,26 +42,26 @@ refused_spec_is_there files name k c r (inr (text, fault, is, reads, says)) lack
 
 -- ---- want of memory
 refused_wants : (words : List (List ℕ)) (old new : ShelfSeen) (r : Refusal) → IsRefused words old new r → WantsMemory words old new
-refused_wants words old new r (inl (none, never, is)) = inl (none, never, tt)
+refused_wants words old new r (inl (refusal, none, never, is)) = inl (refusal, none, never, tt)
 refused_wants words old new r (inr (names, is, inl (once, refuses))) =
     inr (names, is, inl (once, refused_is_there old.files names.netlist r refuses))
 refused_wants words old new r (inr (names, is, inr (c, says, twice, refuses))) =
-    inr (names, is, inr (c, says, twice, refused_spec_is_there old.files names.spec names.kind c r refuses))
+    inr (names, is, inr (c, says, twice, refused_spec_is_there old.files names.spec names.settings.kind c r refuses))
 
-taken_wants : (words : List (List ℕ)) (old new : ShelfSeen) (k : KindName) (c : Circuit) (s : Specification) → IsTaken words old new k c s → WantsMemory words old new
-taken_wants words old new k c s taken =
+taken_wants : (words : List (List ℕ)) (old new : ShelfSeen) (opts : Settings) (c : Circuit) (s : Specification) → IsTaken words old new opts c s → WantsMemory words old new
+taken_wants words old new opts c s taken =
     inr (taken.names, taken.named, inr (c, taken.netlist, taken.fetches, text_is_there old.files taken.names.spec taken.spec.0 taken.spec.1))
 
 output_wants : (words : List (List ℕ)) (old new : ShelfSeen) (text : List ℕ) (status : Status) → IsOutput words old new text status → WantsMemory words old new
 output_wants words old new text status (inl (r, refused, line)) = refused_wants words old new r refused
-output_wants words old new text status (inr (k, c, s, verdicts, taken, reported, report)) = taken_wants words old new k c s taken
+output_wants words old new text status (inr (opts, c, s, verdicts, taken, reported, report)) = taken_wants words old new opts c s taken
 
-same_names : (words : List (List ℕ)) (a b : Names) → names_of words ≡ Some a → names_of words ≡ Some b → a ≡ b
-same_names words a b is other = same_Some a b (sym is ∙ other)
+same_names : (words : List (List ℕ)) (a b : Names) → names_of words ≡ Ok a → names_of words ≡ Ok b → a ≡ b
+same_names words a b is other = let both : Ok a ≡ Ok b = sym is ∙ other in cc
 
-not_absent : (words : List (List ℕ)) (old new : ShelfSeen) (names : Names) → WantsMemory words old new → names_of words ≡ Some names →
+not_absent : (words : List (List ℕ)) (old new : ShelfSeen) (names : Names) → WantsMemory words old new → names_of words ≡ Ok names →
     Lacks old.files names.netlist → ⊥
-not_absent words old new names (inl (none, never, _)) named lacks = absurd (cc)
+not_absent words old new names (inl (refusal, none, never, _)) named lacks = absurd (cc)
 not_absent words old new names (inr (found, is, inl (once, there))) named lacks =
     there (subst (λ (n : Names). Lacks old.files n.netlist) (same_names words names found named is) lacks)
 not_absent words old new names (inr (found, is, inr (c, says, twice, there))) named lacks =
@@ -79,89 +80,89 @@ not_longer : (files : Files) (name text : List ℕ) → Holds files name text �
 not_longer files name text holds within longer =
     let more = subst (λ (o : Option (Option (List ℕ))). IsLonger o MOST_BYTES) holds longer in omega (arith, more, within)
 
-accepted_netlist : (words : List (List ℕ)) (files : Files) (k : KindName) (c d : Circuit) (s : Specification) (names : Names) → Accepts words files k c s →
-    names_of words ≡ Some names → SaysNetlist files names.netlist d → d ≡ c
-accepted_netlist words files k c d s names takes named (text, is, reads) =
+accepted_netlist : (words : List (List ℕ)) (files : Files) (opts : Settings) (c d : Circuit) (s : Specification) (names : Names) → Accepts words files opts c s →
+    names_of words ≡ Ok names → SaysNetlist files names.netlist d → d ≡ c
+accepted_netlist words files opts c d s names takes named (text, is, reads) =
     let same = same_names words names takes.names named takes.named in
     same_circuit takes.netlist_text text c d takes.reads reads
     (only_text files takes.names.netlist takes.netlist_text text takes.netlist (subst (λ (n : Names). IsText files n.netlist text) same is))
 
-same_kind : (words : List (List ℕ)) (files : Files) (k : KindName) (c : Circuit) (s : Specification) (names : Names) → Accepts words files k c s →
-    names_of words ≡ Some names → names.kind ≡ k
-same_kind words files k c s names takes named = ap (λ (n : Names). n.kind) (same_names words names takes.names named takes.named) ∙ takes.kind
+same_settings : (words : List (List ℕ)) (files : Files) (opts : Settings) (c : Circuit) (s : Specification) (names : Names) → Accepts words files opts c s →
+    names_of words ≡ Ok names → names.settings ≡ opts
+same_settings words files opts c s names takes named = ap (λ (n : Names). n.settings) (same_names words names takes.names named takes.named) ∙ takes.settings
 
-accepted_spec : (words : List (List ℕ)) (files : Files) (k : KindName) (c : Circuit) (s : Specification) (names : Names) (text : List ℕ) → Accepts words files k c s →
-    names_of words ≡ Some names → IsText files names.spec text → spec.reading c k text ≡ Ok s
-accepted_spec words files k c s names text takes named is =
+accepted_spec : (words : List (List ℕ)) (files : Files) (opts : Settings) (c : Circuit) (s : Specification) (names : Names) (text : List ℕ) → Accepts words files opts c s →
+    names_of words ≡ Ok names → IsText files names.spec text → grammar.reading c opts.kind text ≡ Ok s
+accepted_spec words files opts c s names text takes named is =
     let same = same_names words names takes.names named takes.named in
-    ap (spec.reading c k) (only_text files takes.names.spec takes.spec_text text takes.spec (subst (λ (n : Names). IsText files n.spec text) same is)) ∙ takes.says
+    ap (grammar.reading c opts.kind) (only_text files takes.names.spec takes.spec_text text takes.spec (subst (λ (n : Names). IsText files n.spec text) same is)) ∙ takes.says
 
-netlist_not_refused : (words : List (List ℕ)) (files : Files) (k : KindName) (c : Circuit) (s : Specification) (names : Names) (r : Refusal) → Accepts words files k c s →
-    names_of words ≡ Some names → RefusesNetlist files names.netlist r → ⊥
-netlist_not_refused words files k c s names r takes named (inl (is, longer)) =
+netlist_not_refused : (words : List (List ℕ)) (files : Files) (opts : Settings) (c : Circuit) (s : Specification) (names : Names) (r : Refusal) → Accepts words files opts c s →
+    names_of words ≡ Ok names → RefusesNetlist files names.netlist r → ⊥
+netlist_not_refused words files opts c s names r takes named (inl (is, longer)) =
     let same = same_names words names takes.names named takes.named in
     not_longer files takes.names.netlist takes.netlist_text takes.netlist takes.netlist_within
     (subst (λ (n : Names). IsLonger (told files n.netlist) MOST_BYTES) same longer)
-netlist_not_refused words files k c s names r takes named (inr (text, fault, is, reads, says)) =
+netlist_not_refused words files opts c s names r takes named (inr (text, fault, is, reads, says)) =
     let same = same_names words names takes.names named takes.named in
     let one = only_text files takes.names.netlist takes.netlist_text text takes.netlist (subst (λ (n : Names). IsText files n.netlist text) same is) in
     let both : Ok c ≡ Err fault = sym takes.reads ∙ ap bench.reading (sym one) ∙ reads in absurd (cc)
 
-spec_not_refused : (words : List (List ℕ)) (files : Files) (k : KindName) (c : Circuit) (s : Specification) (names : Names) (r : Refusal) →
-    Accepts words files k c s → names_of words ≡ Some names → RefusesSpec files names.spec k c r → ⊥
-spec_not_refused words files k c s names r takes named (inl (is, longer)) =
+spec_not_refused : (words : List (List ℕ)) (files : Files) (opts : Settings) (c : Circuit) (s : Specification) (names : Names) (r : Refusal) →
+    Accepts words files opts c s → names_of words ≡ Ok names → RefusesSpec files names.spec opts.kind c r → ⊥
+spec_not_refused words files opts c s names r takes named (inl (is, longer)) =
     let same = same_names words names takes.names named takes.named in
     not_longer files takes.names.spec takes.spec_text takes.spec takes.spec_within
     (subst (λ (n : Names). IsLonger (told files n.spec) MOST_BYTES) same longer)
-spec_not_refused words files k c s names r takes named (inr (text, fault, is, reads, says)) =
-    let both : Ok s ≡ Err fault = sym (accepted_spec words files k c s names text takes named is) ∙ reads in absurd (cc)
+spec_not_refused words files opts c s names r takes named (inr (text, fault, is, reads, says)) =
+    let both : Ok s ≡ Err fault = sym (accepted_spec words files opts c s names text takes named is) ∙ reads in absurd (cc)
 
-not_refused : (words : List (List ℕ)) (old new : ShelfSeen) (k : KindName) (c : Circuit) (s : Specification) (r : Refusal) → Accepts words old.files k c s →
+not_refused : (words : List (List ℕ)) (old new : ShelfSeen) (opts : Settings) (c : Circuit) (s : Specification) (r : Refusal) → Accepts words old.files opts c s →
     IsRefused words old new r → ⊥
-not_refused words old new k c s r takes (inl (none, never, is)) = let named = takes.named in absurd (cc)
-not_refused words old new k c s r takes (inr (names, named, inl (once, refuses))) =
-    netlist_not_refused words old.files k c s names r takes named refuses
-not_refused words old new k c s r takes (inr (names, named, inr (d, says, twice, refuses))) =
-    let same = accepted_netlist words old.files k c d s names takes named says in
-    let of_kind = subst (λ (j : KindName). RefusesSpec old.files names.spec j d r) (same_kind words old.files k c s names takes named) refuses in
-    spec_not_refused words old.files k c s names r takes named (subst (λ (x : Circuit). RefusesSpec old.files names.spec k x r) same of_kind)
+not_refused words old new opts c s r takes (inl (refusal, none, never, is)) = let named = takes.named in absurd (cc)
+not_refused words old new opts c s r takes (inr (names, named, inl (once, refuses))) =
+    netlist_not_refused words old.files opts c s names r takes named refuses
+not_refused words old new opts c s r takes (inr (names, named, inr (d, says, twice, refuses))) =
+    let same = accepted_netlist words old.files opts c d s names takes named says in
+    let of_kind = subst (λ (j : Settings). RefusesSpec old.files names.spec j.kind d r) (same_settings words old.files opts c s names takes named) refuses in
+    spec_not_refused words old.files opts c s names r takes named (subst (λ (x : Circuit). RefusesSpec old.files names.spec opts.kind x r) same of_kind)
 
 -- the circuit and the specification that were loaded are those that are taken
-taken_specification : (words : List (List ℕ)) (old new : ShelfSeen) (k : KindName) (c : Circuit) (s t : Specification) → Accepts words old.files k c s →
-    IsTaken words old new k c t → t ≡ s
-taken_specification words old new k c s t takes taken =
-    let says = accepted_spec words old.files k c s taken.names taken.spec.0 takes taken.named taken.spec.1 in
+taken_specification : (words : List (List ℕ)) (old new : ShelfSeen) (opts : Settings) (c : Circuit) (s t : Specification) → Accepts words old.files opts c s →
+    IsTaken words old new opts c t → t ≡ s
+taken_specification words old new opts c s t takes taken =
+    let says = accepted_spec words old.files opts c s taken.names taken.spec.0 takes taken.named taken.spec.1 in
     let both : Ok t ≡ Ok s = sym taken.spec.2 ∙ says in cc
 
 -- ---- the answers
-no_limit : (k : KindName) (c : Circuit) (s : Specification) (check : Check) (verdict : Verdict) → MeetsNoLimit k c s check → IsVerdictOf k c s check verdict → verdict ≡ answer c s check
-no_limit k c s check Equal free is = is
-no_limit k c s check (Different left right at) free (_, _, is) = is
-no_limit k c s check Overflow free is = absurd (let none = free.not_over in cc)
-no_limit k c s check Full free is = absurd (let none = free.not_short in cc)
+no_limit : (k : KindName) (cells : ℕ) (c : Circuit) (s : Specification) (check : Check) (verdict : Verdict) → MeetsNoLimit k cells c s check → IsVerdictOf k cells c s check verdict → verdict ≡ answer k c s check
+no_limit k cells c s check (Equal nodes) free is = is
+no_limit k cells c s check (Different left right at) free (_, _, is) = is
+no_limit k cells c s check Overflow free is = absurd (let none = free.not_over in cc)
+no_limit k cells c s check Full free is = absurd (let none = free.not_short in cc)
 
-reported_answer : (k : KindName) (c : Circuit) (s : Specification) (place : ℕ) (check : Check) (verdict : Verdict) → slice_get s.checks place ≡ Some check → MeetsNoLimit k c s check →
-    IsReported k c s place verdict → verdict ≡ answer c s check
-reported_answer k c s place check verdict is free (other, there, of_other) =
+reported_answer : (k : KindName) (cells : ℕ) (c : Circuit) (s : Specification) (place : ℕ) (check : Check) (verdict : Verdict) → slice_get s.checks place ≡ Some check → MeetsNoLimit k cells c s check →
+    IsReported k cells c s place verdict → verdict ≡ answer k c s check
+reported_answer k cells c s place check verdict is free (other, there, of_other) =
     let same = same_Some other check (sym there ∙ is) in
-    no_limit k c s check verdict free (subst (λ (x : Check). IsVerdictOf k c s x verdict) same of_other)
+    no_limit k cells c s check verdict free (subst (λ (x : Check). IsVerdictOf k cells c s x verdict) same of_other)
 
-answer_all : (k : KindName) (c : Circuit) (s : Specification) (verdicts : List Verdict) → AreReported k c s verdicts → AnswerAll k c s verdicts
-answer_all k c s verdicts reported = λ place check verdict is there free. reported_answer k c s place check verdict is free (reported.each place verdict there)
+answer_all : (opts : Settings) (c : Circuit) (s : Specification) (verdicts : List Verdict) → AreReported opts.kind opts.cells c s verdicts → AnswerAll opts c s verdicts
+answer_all opts c s verdicts reported = λ place check verdict is there free. reported_answer opts.kind opts.cells c s place check verdict is free (reported.each place verdict there)
 
 -- a text of the specification that is taken is the report of its checks
-accepted_report : (words : List (List ℕ)) (old new : ShelfSeen) (k : KindName) (c : Circuit) (s : Specification) (text : List ℕ) (status : Status) →
-    Accepts words old.files k c s → IsOutput words old new text status →
-    (verdicts : List Verdict) × AreReported k c s verdicts × IsReport c s verdicts text status
-accepted_report words old new k c s text status takes (inl (r, refused, line)) = absurd (not_refused words old new k c s r takes refused)
-accepted_report words old new k c s text status takes (inr (j, d, t, verdicts, taken, reported, report)) =
-    let kind = sym taken.kind ∙ same_kind words old.files k c s taken.names takes taken.named in
-    let circuit = accepted_netlist words old.files k c d s taken.names takes taken.named taken.netlist in
-    let of_kind = subst (λ (i : KindName). IsTaken words old new i d t) kind taken in
-    let spec = taken_specification words old new k c s t takes (subst (λ (x : Circuit). IsTaken words old new k x t) circuit of_kind) in (
+accepted_report : (words : List (List ℕ)) (old new : ShelfSeen) (opts : Settings) (c : Circuit) (s : Specification) (text : List ℕ) (status : Status) →
+    Accepts words old.files opts c s → IsOutput words old new text status →
+    (verdicts : List Verdict) × AreReported opts.kind opts.cells c s verdicts × IsReport c s verdicts text status
+accepted_report words old new opts c s text status takes (inl (r, refused, line)) = absurd (not_refused words old new opts c s r takes refused)
+accepted_report words old new opts c s text status takes (inr (j, d, t, verdicts, taken, reported, report)) =
+    let kind = sym taken.settings ∙ same_settings words old.files opts c s taken.names takes taken.named in
+    let circuit = accepted_netlist words old.files opts c d s taken.names takes taken.named taken.netlist in
+    let of_kind = subst (λ (i : Settings). IsTaken words old new i d t) kind taken in
+    let spec = taken_specification words old new opts c s t takes (subst (λ (x : Circuit). IsTaken words old new opts x t) circuit of_kind) in (
       verdicts,
-      subst (λ (x : Specification). AreReported k c x verdicts) spec
-      (subst (λ (x : Circuit). AreReported k x t verdicts) circuit (subst (λ (i : KindName). AreReported i d t verdicts) kind reported)),
+      subst (λ (x : Specification). AreReported opts.kind opts.cells c x verdicts) spec
+      (subst (λ (x : Circuit). AreReported opts.kind opts.cells x t verdicts) circuit (subst (λ (i : Settings). AreReported i.kind i.cells d t verdicts) kind reported)),
       subst (λ (x : Specification). IsReport c x verdicts text status) spec (subst (λ (x : Circuit). IsReport x t verdicts text status) circuit report),
     )
 
@@ -173,31 +174,31 @@ if_written false false = refl
 
 output_is_written : (words : List (List ℕ)) (old new : ShelfSeen) (text : List ℕ) (status : Status) → IsOutput words old new text status → is_written status ≡ true
 output_is_written words old new text status (inl (r, refused, line)) = ap is_written line.status_is
-output_is_written words old new text status (inr (k, c, s, verdicts, taken, reported, report)) =
+output_is_written words old new text status (inr (opts, c, s, verdicts, taken, reported, report)) =
     ap is_written report.status_is ∙ if_written (list_any is_limit verdicts) (list_any is_different verdicts)
 
 fault_not_written : (status : Status) → is_written status ≡ true → (fault : Status) → is_written fault ≡ false → status ≡ fault → ⊥
 fault_not_written status is fault not same = let both : true ≡ false = sym is ∙ ap is_written same ∙ not in cc
 
-report_where_written : (k : KindName) (c : Circuit) (s : Specification) (old new : Outside) (status : Status) → is_written status ≡ true →
-    WritesReport k c s old.sink new.sink status → GivesReport k c s old new status
-report_where_written k c s old new Done is writes = writes
-report_where_written k c s old new Differs is writes = writes
-report_where_written k c s old new Refused is writes = writes
-report_where_written k c s old new Limited is writes = writes
-report_where_written k c s old new ReadFault is writes = absurd (cc)
-report_where_written k c s old new WriteFault is writes = absurd (cc)
-report_where_written k c s old new NoMemory is writes = absurd (cc)
+report_where_written : (opts : Settings) (c : Circuit) (s : Specification) (old new : Outside) (status : Status) → is_written status ≡ true →
+    WritesReport opts c s old.sink new.sink status → GivesReport opts c s old new status
+report_where_written opts c s old new Done is writes = writes
+report_where_written opts c s old new Differs is writes = writes
+report_where_written opts c s old new Refused is writes = writes
+report_where_written opts c s old new Limited is writes = writes
+report_where_written opts c s old new ReadFault is writes = absurd (cc)
+report_where_written opts c s old new WriteFault is writes = absurd (cc)
+report_where_written opts c s old new NoMemory is writes = absurd (cc)
 
-gives_report : (words : List (List ℕ)) (old new : Outside) (k : KindName) (c : Circuit) (s : Specification) (text : List ℕ) (status : Status) →
-    Accepts words old.shelf.files k c s → IsOutput words old.shelf new.shelf text status → Appends old.sink.written new.sink.written text → GivesReport k c s old new status
-gives_report words old new k c s text status takes output appended =
-    let (verdicts, reported, report) = accepted_report words old.shelf new.shelf k c s text status takes output in
-    report_where_written k c s old new status (output_is_written words old.shelf new.shelf text status output)
+gives_report : (words : List (List ℕ)) (old new : Outside) (opts : Settings) (c : Circuit) (s : Specification) (text : List ℕ) (status : Status) →
+    Accepts words old.shelf.files opts c s → IsOutput words old.shelf new.shelf text status → Appends old.sink.written new.sink.written text → GivesReport opts c s old new status
+gives_report words old new opts c s text status takes output appended =
+    let (verdicts, reported, report) = accepted_report words old.shelf new.shelf opts c s text status takes output in
+    report_where_written opts c s old new status (output_is_written words old.shelf new.shelf text status output)
     (record {
       verdicts = verdicts;
       reported = reported;
-      answers = answer_all k c s verdicts reported;
+      answers = answer_all opts c s verdicts reported;
       text = text;
       report = report;
       appended = appended;
@@ -220,7 +221,7 @@ text_written words old new text status files read output appended faults =
         | inl same ↦ absurd (fault_not_written status is ReadFault refl same)
         | inr same ↦ absurd (fault_not_written status is NoMemory refl same)
       ];
-      answered = λ k c s takes. gives_report words old new k c s text status takes output appended;
+      answered = λ opts c s takes. gives_report words old new opts c s text status takes output appended;
       absent = λ names named lacks. absurd
           (not_absent words old.shelf new.shelf names (output_wants words old.shelf new.shelf text status output) named lacks);
     }
@@ -241,7 +242,7 @@ text_cut words old new text status files read output appended fault =
       no_read_fault = λ _. read;
       no_write_fault = λ is. absurd (is refl);
       nothing = λ either. elim either as (λ _. new.sink.written ≡ old.sink.written) [ inl same ↦ absurd (cc) | inr same ↦ absurd (cc) ];
-      answered = λ k c s takes. rose_of_raised old.sink.faults new.sink.faults fault;
+      answered = λ opts c s takes. rose_of_raised old.sink.faults new.sink.faults fault;
       absent = λ names named lacks. absurd
           (not_absent words old.shelf new.shelf names (output_wants words old.shelf new.shelf text status output) named lacks);
     }
@@ -258,7 +259,7 @@ wanted_memory words old new files read wants sink =
       no_read_fault = λ _. read;
       no_write_fault = λ _. ap (λ s. s.faults) sink;
       nothing = λ _. ap (λ s. s.written) sink;
-      answered = λ k c s takes. tt;
+      answered = λ opts c s takes. tt;
       absent = λ names named lacks. absurd (not_absent words old.shelf new.shelf names wants named lacks);
     }
 
@@ -270,13 +271,13 @@ unread_rose old new name text holds (inl is) = rose_of_raised old.faults new.fau
 unread_rose old new name text holds (inr (lacks, same)) = absurd (held_is_there old.files name text holds lacks)
 
 -- where both files are there, the fault was counted
-fault_counted : (words : List (List ℕ)) (old new : ShelfSeen) (k : KindName) (c : Circuit) (s : Specification) → Accepts words old.files k c s →
+fault_counted : (words : List (List ℕ)) (old new : ShelfSeen) (opts : Settings) (c : Circuit) (s : Specification) → Accepts words old.files opts c s →
     FailsToRead words old new → Rose old.faults new.faults
-fault_counted words old new k c s takes (inl (none, never, nothing)) = absurd nothing
-fault_counted words old new k c s takes (inr (names, named, inl (once, unread))) =
+fault_counted words old new opts c s takes (inl (refusal, none, never, nothing)) = absurd nothing
+fault_counted words old new opts c s takes (inr (names, named, inl (once, unread))) =
     let same = same_names words names takes.names named takes.named in
     unread_rose old new takes.names.netlist takes.netlist_text takes.netlist (subst (λ (n : Names). IsUnread old new n.netlist) same unread)
-fault_counted words old new k c s takes (inr (names, named, inr (d, says, twice, unread))) =
+fault_counted words old new opts c s takes (inr (names, named, inr (d, says, twice, unread))) =
     let same = same_names words names takes.names named takes.named in
     unread_rose old new takes.names.spec takes.spec_text takes.spec (subst (λ (n : Names). IsUnread old new n.spec) same unread)
 
@@ -292,7 +293,7 @@ failed_to_read words old new files fails sink =
       no_read_fault = λ is. absurd (is refl);
       no_write_fault = λ _. ap (λ s. s.faults) sink;
       nothing = λ _. ap (λ s. s.written) sink;
-      answered = λ k c s takes. fault_counted words old.shelf new.shelf k c s takes fails;
+      answered = λ opts c s takes. fault_counted words old.shelf new.shelf opts c s takes fails;
       absent = λ names named lacks. refl;
     }
 
@@ -315,13 +316,13 @@ refusal_run text_of status_of words old new r (Err e) answered files read refuse
     subst (λ (s : Status). IsRun words old new s) (sym none)
     (wanted_memory words old new files read (refused_wants words old.shelf new.shelf r refused) nothing)
 
-pub check_run : {X : Type 0} (text_of : X → List ℕ) (status_of : X → Status) (words : List (List ℕ)) (old new : Outside) (k : KindName) (c : Circuit) (s : Specification) (made : Result X AllocError) (answered : Status) →
-    new.shelf.files ≡ old.shelf.files → new.shelf.faults ≡ old.shelf.faults → IsTaken words old.shelf new.shelf k c s →
-    IfOk made (λ o. (verdicts : List Verdict) × AreReported k c s verdicts × IsReport c s verdicts (text_of o) (status_of o)) →
+pub check_run : {X : Type 0} (text_of : X → List ℕ) (status_of : X → Status) (words : List (List ℕ)) (old new : Outside) (opts : Settings) (c : Circuit) (s : Specification) (made : Result X AllocError) (answered : Status) →
+    new.shelf.files ≡ old.shelf.files → new.shelf.faults ≡ old.shelf.faults → IsTaken words old.shelf new.shelf opts c s →
+    IfOk made (λ o. (verdicts : List Verdict) × AreReported opts.kind opts.cells c s verdicts × IsReport c s verdicts (text_of o) (status_of o)) →
     IfOk made (λ o. PutsText old.sink new.sink (text_of o) (status_of o) answered) →
     OnErr made (answered ≡ NoMemory) → OnErr made (new.sink ≡ old.sink) → IsRun words old new answered
-check_run text_of status_of words old new k c s (Ok o) answered files read taken (verdicts, reported, report) puts none nothing =
-    text_put words old new (text_of o) (status_of o) answered files read (inr (k, c, s, verdicts, taken, reported, report)) puts
-check_run text_of status_of words old new k c s (Err e) answered files read taken line puts none nothing =
+check_run text_of status_of words old new opts c s (Ok o) answered files read taken (verdicts, reported, report) puts none nothing =
+    text_put words old new (text_of o) (status_of o) answered files read (inr (opts, c, s, verdicts, taken, reported, report)) puts
+check_run text_of status_of words old new opts c s (Err e) answered files read taken line puts none nothing =
     subst (λ (x : Status). IsRun words old new x) (sym none)
-    (wanted_memory words old new files read (taken_wants words old.shelf new.shelf k c s taken) nothing)
+    (wanted_memory words old new files read (taken_wants words old.shelf new.shelf opts c s taken) nothing)

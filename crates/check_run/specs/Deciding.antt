@@ -8,7 +8,6 @@ use Rattle.checks.specs.Forward.{building_work}
 use Rattle.circuits.specs.Circuit.{Circuit}
 use Rattle.spec_lang.specs.Specification.{Specification}
 use Rattle.word_base.specs.declared.kind_name.KindName.{KindName}
-use Rattle.check_run.specs.declared.decide.TheConstants.{CELLS}
 use Rattle.spec_lang.specs.declared.eval_error.EvalError.{EvalError}
 use Rattle.spec_lang.specs.declared.eval_error.EvalError.TheVariants as eval
 use Rattle.cone_builder.specs.declared.build_error.BuildError.{BuildError}
@@ -31,5 +30,4 @@ verdict_of_limit build.Memory = Err alloc_error
 -- where there is a check of this number, the builder's store holds nodes of the tables of both its sides' building alone
 pub record HasBuilt (k : KindName) (c : Circuit) (s : Specification) (place : ℕ) (v : View) : Type 0 where
   pub letters : v.letters ≡ s.letters
-  pub room : v.store.room ≡ CELLS
   pub made : (id : ℕ) → Contains v.store.made id → IfSome (slice_get s.checks place) (λ check. HasNodeShape k v (building_work c s check) id)

@@ -8,7 +8,7 @@ use Rattle.bench_reader.specs.Faults as netlist_faults
 use Rattle.bench_reader.specs.declared.fault.BenchCause.TheVariants.{Cycle}
 use Rattle.bench_reader.specs.Reading as bench
 use Rattle.bench_reader.specs.declared.fault.BenchFault.{BenchFault}
-use Rattle.spec_grammar.specs.Reading as spec
+use Rattle.spec_grammar.specs.Reading as grammar
 use Rattle.spec_grammar.specs.Faults.{fault}
 use Rattle.spec_grammar.specs.declared.fault.SpecCause.TheVariants.{UnknownWord}
 use Rattle.spec_grammar.specs.declared.fault.SpecFault.{SpecFault}
@@ -20,7 +20,8 @@ use Rattle.report.specs.declared.refusal.Refusal.{Refusal}
 use Rattle.report.specs.declared.refusal.Refusal.TheVariants.{NetlistTooLong, Netlist, SpecTooLong, Spec}
 use Rattle.texts.specs.declared.limits.TheConstants.{MOST_BYTES}
 use Rattle.check_run.specs.Outside.{Files}
-use Rattle.check_run.specs.Words.{Names, check_n_s, n_and_s, names_of}
+use Rattle.settings.specs.declared.command.Settings.{Settings}
+use Rattle.check_run.specs.Words.{Names, by_hdd, check_n_s, n_and_s, names_of}
 
 -- these bytes are the file of this name, where the shelf tells its files, and they are not too many
 pub record IsText (files : Files) (name bytes : List ℕ) : Type 0 where
@@ -33,7 +34,7 @@ SaysNetlist files name c = (text : List ℕ) × IsText files name text × (bench
 
 -- the file says this specification over the circuit
 abbrev pub SaysSpec : Files → List ℕ → KindName → Circuit → Specification → Type 0
-SaysSpec files name k c s = (text : List ℕ) × IsText files name text × (spec.reading c k text ≡ Ok s)
+SaysSpec files name k c s = (text : List ℕ) × IsText files name text × (grammar.reading c k text ≡ Ok s)
 
 -- the netlist's file is refused: it is too long, or has a fault
 abbrev pub RefusesNetlist : Files → List ℕ → Refusal → Type 0
@@ -45,14 +46,14 @@ RefusesNetlist files name refusal =
 abbrev pub RefusesSpec : Files → List ℕ → KindName → Circuit → Refusal → Type 0
 RefusesSpec files name k c refusal =
     (refusal ≡ SpecTooLong) × IsLonger (told files name) MOST_BYTES
-    ⊎ ((text : List ℕ) × (f : SpecFault) × IsText files name text × (spec.reading c k text ≡ Err f) × (refusal ≡ Spec f))
+    ⊎ ((text : List ℕ) × (f : SpecFault) × IsText files name text × (grammar.reading c k text ≡ Err f) × (refusal ≡ Spec f))
 
--- The words name a kind and two files, the shelf tells both files, and both are taken: the netlist reads as the circuit, and
+-- The words name settings and two files, the shelf tells both files, and both are taken: the netlist reads as the circuit, and
 -- the specification's text says the specification
-pub record Accepts (words : List (List ℕ)) (files : Files) (k : KindName) (c : Circuit) (s : Specification) : Type 0 where
+pub record Accepts (words : List (List ℕ)) (files : Files) (x : Settings) (c : Circuit) (s : Specification) : Type 0 where
   pub names : Names
-  pub named : names_of words ≡ Some names
-  pub kind : names.kind ≡ k
+  pub named : names_of words ≡ Ok names
+  pub settings : names.settings ≡ x
   pub netlist_text : List ℕ
   pub netlist : Holds files names.netlist netlist_text
   pub netlist_within : length netlist_text ≤ MOST_BYTES
@@ -60,7 +61,7 @@ pub record Accepts (words : List (List ℕ)) (files : Files) (k : KindName) (c :
   pub spec_text : List ℕ
   pub spec : Holds files names.spec spec_text
   pub spec_within : length spec_text ≤ MOST_BYTES
-  pub says : spec.reading c k spec_text ≡ Ok s
+  pub says : grammar.reading c x.kind spec_text ≡ Ok s
 
 -- the half adder's two files
 abbrev pub half_text : List ℕ
@@ -84,11 +85,11 @@ looped-refused = inr (codes "INPUT(a)\nx = AND(x, a)\n", netlist_faults.fault 2 
 wordless_refused : RefusesSpec (two_files half_text (Some (codes "check a == 0\n"))) (codes "s") Hdd half (Spec (fault 1 UnknownWord))
 wordless_refused = inr (codes "check a == 0\n", fault 1 UnknownWord, record { whole = refl; within = lit≤ tt }, refl, refl)
 
-half-accepted : Accepts check_n_s (two_files half_text (Some half_spec)) Hdd half half_adder
+half-accepted : Accepts check_n_s (two_files half_text (Some half_spec)) by_hdd half half_adder
 half-accepted = record {
   names = n_and_s;
   named = refl;
-  kind = refl;
+  settings = refl;
   netlist_text = half_text;
   netlist = refl;
   netlist_within = lit≤ tt;

@@ -5,7 +5,7 @@ use Rattle.circuits.specs.Circuit.{Circuit}
 use Rattle.spec_grammar.specs.declared.fault.SpecError.{SpecError}
 use Rattle.spec_grammar.specs.declared.fault.SpecError.TheVariants as spec
 use Rattle.spec_lang.specs.Specification.{Specification}
-use Rattle.word_base.specs.declared.kind_name.KindName.{KindName}
+use Rattle.settings.specs.declared.command.Settings.{Settings}
 use Rattle.bench_reader.specs.declared.fault.BenchError.{BenchError}
 use Rattle.bench_reader.specs.declared.fault.BenchError.TheVariants as bench
 use Rattle.outside.specs.Count.{raised}
@@ -50,8 +50,8 @@ ComesTo Says Refuses old new name (Err (stop.Refused r)) = Refuses r × (new.fau
 ComesTo Says Refuses old new name (Err stop.ReadFault) = IsUnread old new name
 ComesTo Says Refuses old new name (Err stop.Memory) = (Lacks old.files name → ⊥) × (new.faults ≡ old.faults)
 
--- the kind that the words name, and both files
-abbrev pub Loads : List (List ℕ) → ShelfSeen → ShelfSeen → Result (KindName × Circuit × Specification) Stop → Type 0
+-- the settings that the words name, and both files
+abbrev pub Loads : List (List ℕ) → ShelfSeen → ShelfSeen → Result (Settings × Circuit × Specification) Stop → Type 0
 Loads words old new (Ok all) = IsTaken words old new all.0 all.1 all.2 × (new.faults ≡ old.faults)
 Loads words old new (Err (stop.Refused r)) = IsRefused words old new r × (new.faults ≡ old.faults)
 Loads words old new (Err stop.ReadFault) = FailsToRead words old new

@@ -1,6 +1,5 @@
 -- What a run sees of the outside: a shelf of files, and a sink for the line that it writes.
-use Rattle.std.specs.Prelude.{ℕ, List, Option, map}
-use Rattle.std.specs.Borrow.{Bor}
+use Rattle.std.specs.Prelude.{ℕ, List, Option}
 
 -- the bytes of the file of each name, where there is one; `None` where the shelf does not tell
 abbrev pub Files : Type 0
@@ -29,7 +28,3 @@ sink_seen written faults sink = record { written = written sink; faults = faults
 
 abbrev pub seen : ShelfSeen → SinkSeen → Outside
 seen shelf sink = record { shelf = shelf; sink = sink }
-
--- the bytes of each word
-abbrev pub texts : List (Bor (List ℕ)) → List (List ℕ)
-texts words = map (λ word. word.now) words

@@ -1,12 +1,12 @@
 -- What a run does.
-use Rattle.std.specs.Prelude.{◌≡◌, ◌⊎◌, ℕ, Bool, true, false, List, [], ◌∷◌, ◌++◌, map, slice_get, Some, IsTrue}
+use Rattle.std.specs.Prelude.{◌≡◌, ◌⊎◌, ℕ, Bool, true, false, List, [], ◌∷◌, ◌++◌, map, slice_get, Some, Ok, IsTrue}
 use Rattle.std.specs.Io.KnownBytes.{Appends}
 use Rattle.circuits.specs.Circuit.{Circuit, name_of}
 use Rattle.spec_lang.specs.Specification.{Check, Specification}
 use Rattle.checks.specs.Answer.{answer}
 use Rattle.checks.specs.declared.verdict.Verdict.{Verdict}
 use Rattle.outside.specs.Count.{raised, Rose}
-use Rattle.word_base.specs.declared.kind_name.KindName.{KindName}
+use Rattle.settings.specs.declared.command.Settings.{Settings}
 use Rattle.outside.specs.Shelf.{Lacks}
 use Rattle.outside.specs.Sink.{AppendsPrefix}
 use Rattle.report.specs.Lines as lines
@@ -36,8 +36,8 @@ pub record IsReport (c : Circuit) (s : Specification) (verdicts : List Verdict) 
 abbrev pub IsOutput : List (List ℕ) → ShelfSeen → ShelfSeen → List ℕ → Status → Type 0
 IsOutput words old new text status =
     ((refusal : Refusal) × IsRefused words old new refusal × IsRefusalLine refusal text status)
-    ⊎ ((k : KindName) × (c : Circuit) × (s : Specification) × (verdicts : List Verdict)
-    × IsTaken words old new k c s × AreReported k c s verdicts × IsReport c s verdicts text status)
+    ⊎ ((x : Settings) × (c : Circuit) × (s : Specification) × (verdicts : List Verdict)
+    × IsTaken words old new x c s × AreReported x.kind x.cells c s verdicts × IsReport c s verdicts text status)
 
 -- the text was written whole
 pub record WritesAll (words : List (List ℕ)) (old new : Outside) (status : Status) : Type 0 where
@@ -54,25 +54,25 @@ pub record WritesPart (words : List (List ℕ)) (old new : Outside) : Type 0 whe
   pub fault : new.sink.faults ≡ raised old.sink.faults
 
 -- the verdict of each check in which no limit has its cause is its answer
-abbrev pub AnswerAll : KindName → Circuit → Specification → List Verdict → Type 0
-AnswerAll k c s verdicts = (place : ℕ) (check : Check) (verdict : Verdict) → slice_get s.checks place ≡ Some check →
-    slice_get verdicts place ≡ Some verdict → MeetsNoLimit k c s check → verdict ≡ answer c s check
+abbrev pub AnswerAll : Settings → Circuit → Specification → List Verdict → Type 0
+AnswerAll x c s verdicts = (place : ℕ) (check : Check) (verdict : Verdict) → slice_get s.checks place ≡ Some check →
+    slice_get verdicts place ≡ Some verdict → MeetsNoLimit x.kind x.cells c s check → verdict ≡ answer x.kind c s check
 
 -- a line was written for each check: its answer, or the limit that has its cause in it
-pub record WritesReport (k : KindName) (c : Circuit) (s : Specification) (old new : SinkSeen) (status : Status) : Type 0 where
+pub record WritesReport (x : Settings) (c : Circuit) (s : Specification) (old new : SinkSeen) (status : Status) : Type 0 where
   pub verdicts : List Verdict
-  pub reported : AreReported k c s verdicts
-  pub answers : AnswerAll k c s verdicts
+  pub reported : AreReported x.kind x.cells c s verdicts
+  pub answers : AnswerAll x c s verdicts
   pub text : List ℕ
   pub report : IsReport c s verdicts text status
   pub appended : Appends old.written new.written text
 
 -- the report was written, or a fault was counted, or memory was wanting
-abbrev pub GivesReport : KindName → Circuit → Specification → Outside → Outside → Status → Type 0
-GivesReport k c s old new ReadFault = Rose old.shelf.faults new.shelf.faults
-GivesReport k c s old new WriteFault = Rose old.sink.faults new.sink.faults
-GivesReport k c s old new NoMemory = Unit {0}
-GivesReport k c s old new status = WritesReport k c s old.sink new.sink status
+abbrev pub GivesReport : Settings → Circuit → Specification → Outside → Outside → Status → Type 0
+GivesReport x c s old new ReadFault = Rose old.shelf.faults new.shelf.faults
+GivesReport x c s old new WriteFault = Rose old.sink.faults new.sink.faults
+GivesReport x c s old new NoMemory = Unit {0}
+GivesReport x c s old new status = WritesReport x c s old.sink new.sink status
 
 -- a text was written whole
 abbrev pub is_written : Status → Bool
@@ -95,6 +95,6 @@ pub record IsRun (words : List (List ℕ)) (old new : Outside) (status : Status)
   pub no_write_fault : (status ≡ WriteFault → ⊥) → new.sink.faults ≡ old.sink.faults
   pub nothing : (status ≡ ReadFault) ⊎ (status ≡ NoMemory) → new.sink.written ≡ old.sink.written
   -- where both files are taken, all checks are answered
-  pub answered : (k : KindName) (c : Circuit) (s : Specification) → Accepts words old.shelf.files k c s → GivesReport k c s old new status
+  pub answered : (x : Settings) (c : Circuit) (s : Specification) → Accepts words old.shelf.files x c s → GivesReport x c s old new status
   -- a netlist's file that is told to be absent is a fault of reading
-  pub absent : (names : Names) → names_of words ≡ Some names → Lacks old.shelf.files names.netlist → status ≡ ReadFault
+  pub absent : (names : Names) → names_of words ≡ Ok names → Lacks old.shelf.files names.netlist → status ≡ ReadFault

@@ -7,13 +7,13 @@ use Rattle.check_run.specs.declared.status.Status.{Status}
 use Rattle.check_run.specs.declared.status.Status.TheVariants.{Done, Differs, Refused, Limited, ReadFault, WriteFault, NoMemory}
 
 abbrev pub is_limit : Verdict → Bool
-is_limit Equal = false
+is_limit (Equal nodes) = false
 is_limit (Different left right at) = false
 is_limit Overflow = true
 is_limit Full = true
 
 abbrev pub is_different : Verdict → Bool
-is_different Equal = false
+is_different (Equal nodes) = false
 is_different (Different left right at) = true
 is_different Overflow = false
 is_different Full = false
@@ -35,8 +35,8 @@ status_number NoMemory = 6
 limited : status_of (Different (pos 1) (pos 2) [] ∷ Overflow ∷ []) ≡ Limited
 limited = refl
 
-differs : status_of (Equal ∷ Different (pos 1) (pos 2) [] ∷ []) ≡ Differs
+differs : status_of (Equal 2 ∷ Different (pos 1) (pos 2) [] ∷ []) ≡ Differs
 differs = refl
 
-equal_alone : status_of (Equal ∷ Equal ∷ []) ≡ Done
+equal_alone : status_of (Equal 2 ∷ Equal 0 ∷ []) ≡ Done
 equal_alone = refl

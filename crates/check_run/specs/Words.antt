@@ -1,60 +1,64 @@
--- The words of a command.
-use Rattle.std.specs.Prelude.{◌≡◌, ℕ, ◌==◌, Bool, false, not, ◌&&◌, List, [], ◌∷◌, codes, Option, Some, None, if◌then◌else◌, refl}
-use Rattle.std.specs.Option.{option_and_then}
-use Rattle.std.specs.Str.{bytes_eq}
-use Rattle.word_base.specs.declared.kind_name.KindName.{KindName}
-use Rattle.word_base.specs.declared.kind_name.KindName.TheVariants.{Evbdd, StarBmd, Hdd, KStarBmd}
+-- What the words of a command ask for, as far as it is built.
+use Rattle.std.specs.Prelude.{◌≡◌, ℕ, ◌==◌, Bool, true, false, ◌&&◌, List, [], ◌∷◌, codes, Option, Some, None, Result, Ok, Err, if◌then◌else◌, refl}
+use Rattle.checks.specs.declared.method.Method.{Method}
+use Rattle.checks.specs.declared.method.Method.TheVariants.{Forward, Backward}
+use Rattle.settings.specs.declared.command.Settings.{Settings}
+use Rattle.settings.specs.Commands.{PlainCommand, check, gen, command_of}
+use Rattle.report.specs.declared.refusal.Refusal.{Refusal}
+use Rattle.report.specs.declared.refusal.Refusal.TheVariants.{Usage, Words}
+use Rattle.word_base.specs.declared.kind_name.KindName.TheVariants.{StarBmd, Hdd}
 
--- not empty, and not beginning with -
-abbrev pub is_name : List ℕ → Bool
-is_name [] = false
-is_name (b ∷ bs) = not (b == 45)
-
--- the kind that a word names
-abbrev pub kind_of : List ℕ → Option KindName
-kind_of word =
-    if bytes_eq word (codes "evbdd") then Some Evbdd
-    else (if bytes_eq word (codes "star_bmd") then Some StarBmd
-    else (if bytes_eq word (codes "hdd") then Some Hdd
-    else (if bytes_eq word (codes "k_star_bmd") then Some KStarBmd else None)))
-
--- the kind, and the names of the netlist's and the specification's file
+-- the settings of a check, and the names of the netlist's and the specification's file
 pub record Names : Type 0 where
-  pub kind : KindName
+  pub settings : Settings
   pub netlist : List ℕ
   pub spec : List ℕ
 
--- the words before the kind
-abbrev pub is_check_kind : List ℕ → List ℕ → Bool
-is_check_kind command option = bytes_eq command (codes "check") && bytes_eq option (codes "--kind")
+abbrev pub is_forward : Method → Bool
+is_forward Forward = true
+is_forward Backward = false
 
--- check --kind KIND NAME NAME
-abbrev pub names_of : List (List ℕ) → Option Names
-names_of (command ∷ option ∷ kind ∷ netlist ∷ spec ∷ []) =
-    if is_check_kind command option && (is_name netlist && is_name spec)
-    then option_and_then (λ k. Some (record { kind = k; netlist = netlist; spec = spec })) (kind_of kind)
-    else None
-names_of _ = None
+-- forward, with one worker
+abbrev pub is_built : Settings → Bool
+is_built settings = is_forward settings.method && (settings.workers == 1)
+
+-- words that say no command are refused as usage, and those of a command that is not built as such
+abbrev pub names_in : Option PlainCommand → Result Names Refusal
+names_in None = Err Usage
+names_in (Some (gen settings size)) = Err Words
+names_in (Some (check settings netlist spec)) =
+    if is_built settings then Ok (record { settings = settings; netlist = netlist; spec = spec }) else Err Words
+
+abbrev pub names_of : List (List ℕ) → Result Names Refusal
+names_of words = names_in (command_of words)
+
+abbrev pub usual : Settings
+usual = record { kind = StarBmd; method = Forward; workers = 1; cells = 262144 }
+
+abbrev pub by_hdd : Settings
+by_hdd = record { kind = Hdd; method = Forward; workers = 1; cells = 262144 }
 
 -- check --kind hdd n s
 abbrev pub check_n_s : List (List ℕ)
 check_n_s = codes "check" ∷ codes "--kind" ∷ codes "hdd" ∷ codes "n" ∷ codes "s" ∷ []
 
 abbrev pub n_and_s : Names
-n_and_s = record { kind = Hdd; netlist = codes "n"; spec = codes "s" }
+n_and_s = record { settings = by_hdd; netlist = codes "n"; spec = codes "s" }
 
-two_names : names_of check_n_s ≡ Some n_and_s
+two_names : names_of check_n_s ≡ Ok n_and_s
 two_names = refl
 
-edge_valued : names_of (codes "check" ∷ codes "--kind" ∷ codes "evbdd" ∷ codes "n" ∷ codes "s" ∷ [])
-    ≡ Some (record { kind = Evbdd; netlist = codes "n"; spec = codes "s" })
-edge_valued = refl
+no_option : names_of (codes "check" ∷ codes "n" ∷ codes "s" ∷ []) ≡ Ok (record { settings = usual; netlist = codes "n"; spec = codes "s" })
+no_option = refl
 
-check_alone : names_of (codes "check" ∷ []) ≡ None
+check_alone : names_of (codes "check" ∷ []) ≡ Err Usage
 check_alone = refl
 
-option_as_name : names_of (codes "check" ∷ codes "--kind" ∷ codes "hdd" ∷ codes "n" ∷ codes "-s" ∷ []) ≡ None
-option_as_name = refl
+two_workers : names_of (codes "check" ∷ codes "--workers" ∷ codes "2" ∷ codes "n" ∷ codes "s" ∷ []) ≡ Err Words
+two_workers = refl
 
-no_kind : names_of (codes "check" ∷ codes "--kind" ∷ codes "bdd" ∷ codes "n" ∷ codes "s" ∷ []) ≡ None
-no_kind = refl
+backward : names_of (codes "check" ∷ codes "--method" ∷ codes "backward" ∷ codes "n" ∷ codes "s" ∷ []) ≡ Err Words
+backward = refl
+
+a_multiplier : names_of (codes "gen" ∷ codes "2" ∷ []) ≡ Err Words
+a_multiplier = refl

@@ -1,9 +1,11 @@
 ghost use Rattle.std.specs.Prelude.{◌≡◌, IfOk, List, OnErr, string_bytes};
 ghost use Rattle.check_run.specs.Loading.{PutsText};
-ghost use Rattle.check_run.specs.Outside.{seen, shelf_seen, sink_seen, texts};
+ghost use Rattle.check_run.specs.Outside.{seen, shelf_seen, sink_seen};
 ghost use Rattle.check_run.specs.Run.{IsRefusalLine, IsReport, IsRun};
 ghost use Rattle.check_run.specs.Verdicts.{AreReported};
 ghost use Rattle.checks.specs.declared.verdict.Verdict.{Verdict};
+ghost use Rattle.settings.specs.Limits.{AreWithin};
+ghost use Rattle.settings.specs.Words.{texts};
 ghost use Rattle.spec_grammar.specs.ReadFor.{IsReadFor};
 
 use crate::decide::decide_all;
@@ -13,9 +15,9 @@ use crate::stop::Stop;
 use netlist::Netlist;
 use outside::{Gate, PutFailed, Shelf, Sink};
 use report::{Refusal, refusal_line, verdict_lines};
+use settings::Settings;
 use spec_lang::Spec;
 use std::alloc::{AllocError, Global};
-use word_base::KindName;
 
 /// A text to write, and the status that goes with it.
 #[derive(Drop)]
@@ -37,16 +39,17 @@ fn refused(alloc: Global, refusal: &Refusal) -> Result<Outcome, AllocError>
 /// The lines of all checks.
 fn checked(
     alloc: Global,
-    kind: KindName,
+    settings: Settings,
     netlist: &Netlist,
     spec: &Spec,
 ) -> Result<Outcome, AllocError>
-    requires { IsReadFor netlist.now kind spec.now }
+    requires read_for { IsReadFor netlist.now settings.kind spec.now }
+    requires limits { AreWithin settings }
     ensures { IfOk result (λ outcome. (verdicts : List Verdict)
-        × AreReported kind netlist.now spec.now verdicts
+        × AreReported settings.kind settings.cells netlist.now spec.now verdicts
         × IsReport netlist.now spec.now verdicts (string_bytes outcome.text) outcome.status) }
 {
-    let verdicts = decide_all(alloc, kind, netlist, spec)?;
+    let verdicts = decide_all(alloc, settings, netlist, spec)?;
     let text = verdict_lines(alloc, netlist, spec.order(), &verdicts)?;
     let status = status_of(&verdicts);
     Ok(Outcome { text, status })
@@ -86,7 +89,7 @@ pub fn run<F: Shelf, O: Sink, G: Gate>(
         result }
 {
     match load(alloc, words, shelf) {
-        Ok((kind, netlist, spec)) => put(out, checked(alloc, kind, &netlist, &spec)),
+        Ok((settings, netlist, spec)) => put(out, checked(alloc, settings, &netlist, &spec)),
         Err(Stop::Refused(refusal)) => put(out, refused(alloc, &refusal)),
         Err(Stop::ReadFault) => Status::ReadFault,
         Err(Stop::Memory) => Status::NoMemory,

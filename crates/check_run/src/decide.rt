@@ -4,6 +4,8 @@ ghost use Rattle.check_run.specs.Deciding.{verdict_at, verdict_of_limit, HasBuil
 ghost use Rattle.check_run.specs.Verdicts.{AreReported, IsReported};
 ghost use Rattle.cone_builder.specs.Sides.{AreSides};
 ghost use Rattle.kinds.specs.Plain.{plain};
+ghost use Rattle.settings.specs.Limits.{AreWithin};
+ghost use Rattle.settings.specs.declared.limits.TheConstants.{MOST_CELLS};
 ghost use Rattle.spec_grammar.specs.ReadFor.{IsReadFor};
 ghost use Rattle.spec_lang.specs.WellFormed.{IsOver};
 ghost use Rattle.tables.specs.Laws.{are_allowed};
@@ -18,13 +20,11 @@ use k_star_bmd::KStarBmd;
 use kinds::{Edge, Kind};
 use netlist::Netlist;
 use record_store::SoloStore;
+use settings::Settings;
 use spec_lang::{EvalError, Spec};
 use star_bmd::StarBmd;
 use std::alloc::{AllocError, Global};
 use word_base::{Assign, KindName, Levels, LevelsFault, Weight};
-
-/// How many nodes a check's store holds at most.
-pub const CELLS: u32 = 262_144;
 
 /// The levels of the inputs.
 fn levels_of(alloc: Global, spec: &Spec) -> Result<Levels, AllocError>
@@ -83,11 +83,13 @@ fn compare<K: Kind>(
     requires levels { length builder.old.letters ≡ length spec.now.order }
     requires built { HasBuilt K.NAME netlist.now spec.now check builder.old }
     requires sides { AreSides K.NAME netlist.now spec.now check builder.old (plain K.extra_of sides.0) (plain K.extra_of sides.1) }
-    ensures { IfOk result (λ verdict. IsReported K.NAME netlist.now spec.now check verdict) }
+    ensures { IfOk result (λ verdict. IsReported K.NAME builder.old.store.room netlist.now spec.now check verdict) }
 {
     let (left, right) = sides;
     if builder.same(left, right) {
-        return Ok(Verdict::Equal);
+        return Ok(Verdict::Equal {
+            nodes: builder.count(left),
+        });
     }
     let mut at = Assign::new(alloc, builder.levels())?;
     match first_difference(builder, 0, left, right, &mut at) {
@@ -105,6 +107,7 @@ fn compare<K: Kind>(
 /// What is answered to a check, by diagrams of a kind that allows the letter of each level.
 fn decide_by<K: Kind>(
     alloc: Global,
+    cells: u32,
     netlist: &Netlist,
     spec: &Spec,
     check: u32,
@@ -112,12 +115,17 @@ fn decide_by<K: Kind>(
     requires over { IsOver netlist.now spec.now }
     requires check { check < length spec.now.checks }
     requires allowed { are_allowed K.NAME spec.now.letters ≡ true }
-    ensures { IfOk result (λ verdict. IsReported K.NAME netlist.now spec.now check verdict) }
+    requires some { 0 < cells }
+    requires few { cells ≤ MOST_CELLS }
+    ensures { IfOk result (λ verdict. IsReported K.NAME cells netlist.now spec.now check verdict) }
 {
     let _inputs = netlist.inputs();
     let levels = levels_of(alloc, spec)?;
-    let store = SoloStore::create(alloc, CELLS)?;
-    let mut builder = Builder::<K, SoloStore>::create(store, levels);
+    let store = SoloStore::create(alloc, cells)?;
+    let mut builder = match Builder::<K, SoloStore>::create(alloc, store, levels, cells) {
+        Ok(builder) => builder,
+        Err(_) => return Err(AllocError),
+    };
     match build_one(alloc, &mut builder, netlist, spec, check) {
         Ok(sides) => compare(alloc, &mut builder, netlist, spec, check, sides),
         Err(error) => {
@@ -127,41 +135,43 @@ fn decide_by<K: Kind>(
     }
 }
 
-/// What is answered to a check, by diagrams of the kind of this name.
+/// What is answered to a check, with these settings.
 fn decide(
     alloc: Global,
-    kind: KindName,
+    settings: Settings,
     netlist: &Netlist,
     spec: &Spec,
     check: u32,
 ) -> Result<Verdict, AllocError>
     requires over { IsOver netlist.now spec.now }
     requires check { check < length spec.now.checks }
-    requires allowed { are_allowed kind spec.now.letters ≡ true }
-    ensures { IfOk result (λ verdict. IsReported kind netlist.now spec.now check verdict) }
+    requires allowed { are_allowed settings.kind spec.now.letters ≡ true }
+    requires limits { AreWithin settings }
+    ensures { IfOk result (λ verdict. IsReported settings.kind settings.cells netlist.now spec.now check verdict) }
 {
-    match kind {
-        KindName::Evbdd => decide_by::<Evbdd>(alloc, netlist, spec, check),
-        KindName::StarBmd => decide_by::<StarBmd>(alloc, netlist, spec, check),
-        KindName::Hdd => decide_by::<Hdd>(alloc, netlist, spec, check),
-        KindName::KStarBmd => decide_by::<KStarBmd>(alloc, netlist, spec, check),
+    let cells = settings.cells;
+    match settings.kind {
+        KindName::Evbdd => decide_by::<Evbdd>(alloc, cells, netlist, spec, check),
+        KindName::StarBmd => decide_by::<StarBmd>(alloc, cells, netlist, spec, check),
+        KindName::Hdd => decide_by::<Hdd>(alloc, cells, netlist, spec, check),
+        KindName::KStarBmd => decide_by::<KStarBmd>(alloc, cells, netlist, spec, check),
     }
 }
 
-/// What is answered to each check, by diagrams of the kind of this name. Each check has a builder and a store of its
-/// own.
+/// What is answered to each check, with these settings. Each check has a builder and a store of its own.
 pub(crate) fn decide_all(
     alloc: Global,
-    kind: KindName,
+    settings: Settings,
     netlist: &Netlist,
     spec: &Spec,
 ) -> Result<Vec<Verdict>, AllocError>
-    requires { IsReadFor netlist.now kind spec.now }
-    ensures { IfOk result (λ verdicts. AreReported kind netlist.now spec.now verdicts.items) }
+    requires read_for { IsReadFor netlist.now settings.kind spec.now }
+    requires limits { AreWithin settings }
+    ensures { IfOk result (λ verdicts. AreReported settings.kind settings.cells netlist.now spec.now verdicts.items) }
 {
     let mut verdicts = Vec::new(alloc);
     for check in 0..spec.checks() {
-        verdicts.push(decide(alloc, kind, netlist, spec, check)?)?;
+        verdicts.push(decide(alloc, settings, netlist, spec, check)?)?;
     }
     Ok(verdicts)
 }

@@ -1,7 +1,9 @@
 ghost use Rattle.std.specs.Prelude.{◌≡◌, IfOk};
 ghost use Rattle.check_run.specs.Files.{IsText, RefusesNetlist, RefusesSpec, SaysNetlist, SaysSpec};
 ghost use Rattle.check_run.specs.Loading.{ComesTo, IsTooLong, Loads};
-ghost use Rattle.check_run.specs.Outside.{shelf_seen, texts};
+ghost use Rattle.check_run.specs.Outside.{shelf_seen};
+ghost use Rattle.settings.specs.Limits.{AreWithin};
+ghost use Rattle.settings.specs.Words.{texts};
 ghost use Rattle.outside.specs.Count.{raised};
 ghost use Rattle.spec_grammar.specs.ReadFor.{IsReadFor};
 
@@ -10,6 +12,7 @@ use crate::words::names_in;
 use netlist::Netlist;
 use outside::Shelf;
 use report::Refusal;
+use settings::Settings;
 use spec_lang::Spec;
 use std::alloc::Global;
 use texts::MOST_BYTES;
@@ -69,22 +72,24 @@ fn load_spec<F: Shelf>(
     Ok(spec_reader::read(alloc, &bytes, netlist, kind)?)
 }
 
-/// The kind, the netlist and the specification that the words name.
+/// The settings, the netlist and the specification that the words name.
 pub(crate) fn load<F: Shelf>(
     alloc: Global,
     words: &[&str],
     shelf: &mut F,
-) -> Result<(KindName, Netlist, Spec), Stop>
+) -> Result<(Settings, Netlist, Spec), Stop>
     ensures files { F.files shelf.new ≡ F.files shelf.old }
     ensures loads { Loads (texts words.now)
         (shelf_seen F.files F.fetches F.faults shelf.old)
         (shelf_seen F.files F.fetches F.faults shelf.new) result }
-    ensures read_for { IfOk result (λ all. IsReadFor all.1 all.0 all.2) }
+    ensures read_for { IfOk result (λ all. IsReadFor all.1 all.0.kind all.2) }
+    ensures limits { IfOk result (λ all. AreWithin all.0) }
 {
-    let Some(names) = names_in(words) else {
-        return Err(Stop::Refused(Refusal::Words));
+    let names = match names_in(words) {
+        Ok(names) => names,
+        Err(refusal) => return Err(Stop::Refused(refusal)),
     };
-    let netlist = load_netlist(alloc, shelf, names.1)?;
-    let spec = load_spec(alloc, shelf, names.2, names.0, &netlist)?;
-    Ok((names.0, netlist, spec))
+    let netlist = load_netlist(alloc, shelf, names.netlist)?;
+    let spec = load_spec(alloc, shelf, names.spec, names.settings.kind, &netlist)?;
+    Ok((names.settings, netlist, spec))
 }

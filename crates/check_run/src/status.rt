@@ -1,4 +1,5 @@
 ghost use Rattle.std.specs.Prelude.{◌≡◌};
+ghost use Rattle.std.specs.List.{list_any};
 ghost use Rattle.check_run.specs.Statuses.{is_different, is_limit, status_number, status_of};
 
 use checks::Verdict;
@@ -44,7 +45,7 @@ fn is_limit(verdict: &Verdict) -> bool
 {
     match verdict {
         Verdict::Overflow | Verdict::Full => true,
-        Verdict::Equal | Verdict::Different { .. } => false,
+        Verdict::Equal { .. } | Verdict::Different { .. } => false,
     }
 }
 
@@ -53,19 +54,31 @@ fn is_different(verdict: &Verdict) -> bool
 {
     match verdict {
         Verdict::Different { .. } => true,
-        Verdict::Equal | Verdict::Overflow | Verdict::Full => false,
+        Verdict::Equal { .. } | Verdict::Overflow | Verdict::Full => false,
     }
+}
+
+fn has_limit(verdicts: &[Verdict]) -> bool
+    ensures { result ≡ list_any is_limit verdicts.now }
+{
+    verdicts.iter().any(|verdict| is_limit(verdict))
+}
+
+fn has_difference(verdicts: &[Verdict]) -> bool
+    ensures { result ≡ list_any is_different verdicts.now }
+{
+    verdicts.iter().any(|verdict| is_different(verdict))
 }
 
 /// The status of a run that wrote the line of each verdict.
 pub(crate) fn status_of(verdicts: &[Verdict]) -> Status
     ensures { result ≡ status_of verdicts.now }
 {
-    if verdicts.iter().any(|verdict| is_limit(verdict)) {
-        return Status::Limited;
+    if has_limit(verdicts) {
+        Status::Limited
+    } else if has_difference(verdicts) {
+        Status::Differs
+    } else {
+        Status::Done
     }
-    if verdicts.iter().any(|verdict| is_different(verdict)) {
-        return Status::Differs;
-    }
-    Status::Done
 }

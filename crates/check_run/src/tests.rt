@@ -7,7 +7,7 @@ use super::*;
 use outside::{MemoryShelf, MemorySink, OpenGate};
 use std::alloc::{AllocError, Global};
 
-const WORDS: &[&str] = &["check", "--kind", "hdd", "n", "s"];
+const WORDS: &[&str] = &["check", "n", "s"];
 
 const KINDS: &[&str] = &["evbdd", "star_bmd", "hdd", "k_star_bmd"];
 

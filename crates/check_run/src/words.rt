@@ -1,55 +1,52 @@
-ghost use Rattle.std.specs.Prelude.{◌≡◌, ◌&&◌, IfSome, IsNone, Some, None};
-ghost use Rattle.check_run.specs.Outside.{texts};
-ghost use Rattle.check_run.specs.Words.{is_check_kind, is_name, kind_of, names_of};
+ghost use Rattle.std.specs.Prelude.{◌≡◌, IfErr, IfOk, Err, Ok};
+ghost use Rattle.settings.specs.Limits.{AreWithin};
+ghost use Rattle.settings.specs.Words.{texts};
+ghost use Rattle.check_run.specs.Words.{is_built, names_of};
 
-use word_base::KindName;
+use checks::Method;
+use report::Refusal;
+use settings::{Command, Settings, command_of};
 
-fn is_name(word: &str) -> bool
-    ensures { result ≡ is_name word.now }
+/// What a check is asked with: its settings, and the names of the netlist's and the specification's file.
+#[derive(Clone, Copy)]
+pub(crate) struct Names<'a> {
+    pub settings: Settings,
+    pub netlist: &'a str,
+    pub spec: &'a str,
+}
+
+fn is_built(settings: Settings) -> bool
+    ensures { result ≡ is_built settings }
 {
-    match word.as_bytes() {
-        [] => false,
-        [first, ..] => *first != b'-',
+    match settings.method {
+        Method::Forward => settings.workers == 1,
+        Method::Backward => false,
     }
 }
 
-fn is_check_kind(command: &str, option: &str) -> bool
-    ensures { result ≡ is_check_kind command.now option.now }
+/// What the words ask for, or why they are refused.
+pub(crate) fn names_in<'a>(words: &[&'a str]) -> Result<Names<'a>, Refusal>
+    ensures named { IfOk result (λ names. names_of (texts words.now)
+        ≡ Ok (record { settings = names.settings; netlist = names.netlist.now; spec = names.spec.now })) }
+    ensures refused { IfErr result (λ refusal. names_of (texts words.now) ≡ Err refusal) }
+    ensures limits { IfOk result (λ names. AreWithin names.settings) }
 {
-    command == "check" && option == "--kind"
-}
-
-/// The kind that a word names.
-fn kind_of(word: &str) -> Option<KindName>
-    ensures { result ≡ kind_of word.now }
-{
-    if word == "evbdd" {
-        Some(KindName::Evbdd)
-    } else if word == "star_bmd" {
-        Some(KindName::StarBmd)
-    } else if word == "hdd" {
-        Some(KindName::Hdd)
-    } else if word == "k_star_bmd" {
-        Some(KindName::KStarBmd)
-    } else {
-        None
-    }
-}
-
-/// The kind, and the names of the netlist's and the specification's file, where the words are
-/// `check --kind KIND NAME NAME`.
-pub(crate) fn names_in<'a>(words: &[&'a str]) -> Option<(KindName, &'a str, &'a str)>
-    ensures some { IfSome result (λ names. names_of (texts words.now)
-        ≡ Some (record { kind = names.0; netlist = names.1.now; spec = names.2.now })) }
-    ensures none { IsNone result → names_of (texts words.now) ≡ None }
-{
-    match words {
-        [command, option, kind, netlist, spec] => {
-            if is_check_kind(command, option) && is_name(netlist) && is_name(spec) {
-                return Some((kind_of(kind)?, *netlist, *spec));
+    match command_of(words) {
+        None => Err(Refusal::Usage),
+        Some(Command::Gen { .. }) => Err(Refusal::Words),
+        Some(Command::Check {
+            settings,
+            netlist,
+            spec,
+        }) => {
+            if !is_built(settings) {
+                return Err(Refusal::Words);
             }
-            None
+            Ok(Names {
+                settings,
+                netlist,
+                spec,
+            })
         }
-        _ => None,
     }
 }

@@ -7,9 +7,10 @@ use Rattle.bench_reader.specs.declared.fault.BenchCause.TheVariants.{DuplicateNe
 use Rattle.spec_grammar.specs.Texts as spec
 use Rattle.spec_grammar.specs.declared.fault.SpecCause.TheVariants.{NoCheck}
 use Rattle.report.specs.declared.refusal.Refusal.{Refusal}
-use Rattle.report.specs.declared.refusal.Refusal.TheVariants.{Words, NetlistTooLong, Netlist, SpecTooLong, Spec}
+use Rattle.report.specs.declared.refusal.Refusal.TheVariants.{Usage, Words, NetlistTooLong, Netlist, SpecTooLong, Spec}
 
 abbrev pub refusal_text : Refusal → List ℕ
+refusal_text Usage = codes "refused usage"
 refusal_text Words = codes "refused words unbuilt"
 refusal_text NetlistTooLong = codes "refused netlist too-long"
 refusal_text (Netlist fault) = codes "refused netlist " ++ bench.fault_text fault

@@ -10,7 +10,9 @@ use std::fmt;
 /// Why a run takes nothing: which of its words and files it refuses.
 #[derive(Clone, Copy, Debug, PartialEq, Eq)]
 pub enum Refusal {
-    /// The words of the command have a form that is not taken yet.
+    /// The words say no command.
+    Usage,
+    /// The words say a command that is not built yet.
     Words,
     /// The netlist file is above the limit.
     NetlistTooLong,
@@ -27,6 +29,7 @@ impl fmt::Display for Refusal {
 
     fn fmt<W: fmt::Write>(&self, f: &mut fmt::Formatter<W>) -> fmt::Result {
         match self {
+            Refusal::Usage => write!(f, "refused usage"),
             Refusal::Words => write!(f, "refused words unbuilt"),
             Refusal::NetlistTooLong => write!(f, "refused netlist too-long"),
             Refusal::Netlist(fault) => write!(f, "refused netlist {fault}"),

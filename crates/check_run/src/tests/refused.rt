@@ -2,7 +2,7 @@ use super::*;
 use std::test::Fail;
 
 #[test]
-fn words_and_netlists_are_refused(rt: HostRuntime) -> Result<(), Fail> {
+fn netlists_are_refused(rt: HostRuntime) -> Result<(), Fail> {
     let rows = [
         ("INPUT(a)\nz = AND(a", "refused netlist 2 bad-line\n"),
         (
@@ -29,12 +29,29 @@ fn words_and_netlists_are_refused(rt: HostRuntime) -> Result<(), Fail> {
         let answer = of_texts(rt.alloc(), netlist, "", line)?;
         assert_eq!(rt; answer, (2, true), "{line}");
     }
+    Ok(())
+}
+
+#[test]
+fn words_are_refused(rt: HostRuntime) -> Result<(), Fail> {
     let mut shelf = shelf_of(rt.alloc(), HALF.as_bytes(), HALF_SPEC.as_bytes())?;
-    let line = "refused words unbuilt\n";
-    let answer = outcome(rt.alloc(), &["check"], &mut shelf, 1000, line)?;
-    assert_eq!(rt; answer, (2, true));
-    let answer = of_kind(rt.alloc(), "bdd", HALF, HALF_SPEC, line)?;
+    let usage = "refused usage\n";
+    let answer = outcome(rt.alloc(), &["check"], &mut shelf, 1000, usage)?;
+    assert_eq!(rt; answer, (2, true), "no name");
+    let words = ["check", "--workers", "17", "n", "s"];
+    let answer = outcome(rt.alloc(), &words, &mut shelf, 1000, usage)?;
+    assert_eq!(rt; answer, (2, true), "17 workers");
+    let answer = of_kind(rt.alloc(), "bdd", HALF, HALF_SPEC, usage)?;
     assert_eq!(rt; answer, (2, true), "another kind");
+    let unbuilt = "refused words unbuilt\n";
+    let words = ["check", "--workers", "2", "n", "s"];
+    let answer = outcome(rt.alloc(), &words, &mut shelf, 1000, unbuilt)?;
+    assert_eq!(rt; answer, (2, true), "two workers");
+    let words = ["check", "--method", "backward", "n", "s"];
+    let answer = outcome(rt.alloc(), &words, &mut shelf, 1000, unbuilt)?;
+    assert_eq!(rt; answer, (2, true), "backward");
+    let answer = outcome(rt.alloc(), &["gen", "2"], &mut shelf, 1000, unbuilt)?;
+    assert_eq!(rt; answer, (2, true), "a multiplier");
     Ok(())
 }
 

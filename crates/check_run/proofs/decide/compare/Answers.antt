@@ -19,7 +19,21 @@ returns-then-same g c =
     let left = plain of c.args.sides.0 in
     let right = plain of c.args.sides.1 in
     let both = sides_at k n s c.args.check found.0 v left right found.1 c.requires.sides in
-    equal_decided k n s c.args.check found.0 found.1 ((c.same.ensures 0 (side n s found.0.left) (side n s found.0.right) both.0 both.1).0 c.if-same.true)
+    equal_decided k v.store.room n s c.args.check found.0 found.1 ((c.same.ensures 0 (side n s found.0.left) (side n s found.0.right) both.0 both.1).0 c.if-same.true)
+    c.count.result (c.count.ensures.count 0 (side n s found.0.left) both.0)
+
+pub count-requires : goal.count-requires
+count-requires g c κs within =
+    let k = g.K.Kind.NAME in
+    let of = g.K.Kind.extra_of in
+    let n = c.args.netlist.now in
+    let s = c.args.spec.now in
+    let v = c.args.builder.now in
+    let found = check_there s c.args.check c.requires.check in
+    let left = plain of c.args.sides.0 in
+    let right = plain of c.args.sides.1 in
+    let both = sides_at k n s c.args.check found.0 v left right found.1 c.requires.sides in
+    (side n s found.0.left, both.0)
 
 pub first_difference-requires-clause-left_lies : goal.first_difference-requires-clause-left_lies
 first_difference-requires-clause-left_lies g c κs within =
@@ -64,7 +78,7 @@ returns-in-Ok g c =
     let right = plain of c.args.sides.1 in
     let both = sides_at k n s c.args.check found.0 v left right found.1 c.requires.sides in
     let first = c.in-Ok.ensures.first (side n s found.0.left) (side n s found.0.right) both.0 both.1 in
-    evaluated_decided k n s c.args.check found.0 first.difference c.first_difference.new.into c.evaluate-values.result c.verdict_at.result
+    evaluated_decided k v.store.room n s c.args.check found.0 first.difference c.first_difference.new.into c.evaluate-values.result c.verdict_at.result
     found.1 first.found first.at c.evaluate-values.ensures c.verdict_at.ensures
 
 pub returns-in-Err : goal.returns-in-Err
