@@ -1,12 +1,13 @@
-//! The program: `worddd check --kind KIND NETLIST SPECIFICATION`. It decides the check of the specification over
-//! the netlist, prints one line, and ends with the number of its status.
+//! The program: `worddd check [--kind KIND] [--cells NUMBER] NETLIST SPECIFICATION`. It decides the checks of the
+//! specification over the netlist, prints a line for each, and ends with the number of its status.
 #![tactic(auto)]
 
 ghost use Rattle.std.specs.Prelude.{◌≡◌, ◌↔◌, [], map, IfOk, IfErr, IsErr, string_bytes};
 ghost use Rattle.std.specs.IoError.{error_kind};
 ghost use Rattle.std.specs.Process.{exit_status};
 ghost use Rattle.std.specs.Vec.Iter.{into_iter_items};
-ghost use Rattle.check_run.specs.Outside.{seen, shelf_seen, sink_seen, texts};
+ghost use Rattle.check_run.specs.Outside.{seen, shelf_seen, sink_seen};
+ghost use Rattle.settings.specs.Words.{texts};
 ghost use Rattle.check_run.specs.Run.{IsRun};
 ghost use Rattle.worddd_cli.specs.CommandLine.{behind_name, exit_number, words_in};
 

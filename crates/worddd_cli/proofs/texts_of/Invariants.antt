@@ -1,5 +1,5 @@
 use Rattle.std.proofs.Common.{◌≡◌, map, string_bytes, take}
-use Rattle.check_run.specs.Outside.{texts}
+use Rattle.settings.specs.Words.{texts}
 use Rattle.worddd_cli.proofs.texts_of.Given as goal
 
 abbrev pub invariant-loop-word : goal.invariant-loop-word
