@@ -11,6 +11,7 @@ pub mod MultipleLaws
 pub mod PartLaws
 pub mod ProductCalls
 pub mod ProductLaws
+pub mod RememberedLaws
 pub mod SameLaws
 pub mod StepLaws
 pub mod StoreLaws

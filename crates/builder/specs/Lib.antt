@@ -1,4 +1,5 @@
 pub mod Answers
 pub mod Calls
 pub mod Products
+pub mod Remembered
 pub mod View

@@ -5,8 +5,10 @@ mod builder;
 mod difference;
 mod limit;
 mod multiple;
+mod operation;
 mod parts;
 mod product;
+mod remembered;
 mod sum;
 #[cfg(test)]
 mod tests;

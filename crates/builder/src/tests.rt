@@ -73,19 +73,21 @@ impl Term<'_> {
     }
 }
 
-/// A builder with two levels of one letter.
+/// A builder with two levels of one letter, which remembers few results.
 fn two_levels<K: Kind>(
     alloc: Global,
     letter: Decomp,
     cells: u32,
+    cache_log: u32,
 ) -> Result<Builder<K, SoloStore>, Fail>
     requires allowed { is_allowed K.NAME letter ≡ true }
     requires some { 0 < cells }
     requires within { cells ≤ 100 }
+    requires few { cache_log ≤ 8 }
 {
     let levels = Levels::new(alloc, &[letter, letter])?;
     let store = SoloStore::create(alloc, cells)?;
-    Ok(Builder::create(store, levels))
+    Builder::create(alloc, store, levels, cache_log).map_err(|_| Fail::from("no memory"))
 }
 
 /// Whether two terms have one edge.
@@ -125,11 +127,11 @@ fn check_terms<K: Kind>(rt: &impl Abort, builder: &mut Builder<K, SoloStore>) ->
 #[test]
 fn terms_with_one_meaning_have_one_edge(rt: HostRuntime) -> Result<(), Fail> {
     for letter in [Decomp::S, Decomp::P, Decomp::N] {
-        check_terms(&rt, &mut two_levels::<Hdd>(rt.alloc(), letter, 100)?)?;
-        check_terms(&rt, &mut two_levels::<KStarBmd>(rt.alloc(), letter, 100)?)?;
+        check_terms(&rt, &mut two_levels::<Hdd>(rt.alloc(), letter, 100, 8)?)?;
+        check_terms(&rt, &mut two_levels::<KStarBmd>(rt.alloc(), letter, 100, 0)?)?;
     }
-    check_terms(&rt, &mut two_levels::<Evbdd>(rt.alloc(), Decomp::S, 100)?)?;
-    check_terms(&rt, &mut two_levels::<StarBmd>(rt.alloc(), Decomp::P, 100)?)
+    check_terms(&rt, &mut two_levels::<Evbdd>(rt.alloc(), Decomp::S, 100, 1)?)?;
+    check_terms(&rt, &mut two_levels::<StarBmd>(rt.alloc(), Decomp::P, 100, 2)?)
 }
 
 fn check_causes<K: Kind>(rt: &impl Abort, builder: &mut Builder<K, SoloStore>) -> Result<(), Fail> {
@@ -149,8 +151,8 @@ fn check_causes<K: Kind>(rt: &impl Abort, builder: &mut Builder<K, SoloStore>) -
 
 #[test]
 fn a_store_of_one_node_is_full(rt: HostRuntime) -> Result<(), Fail> {
-    check_causes(&rt, &mut two_levels::<Hdd>(rt.alloc(), Decomp::N, 1)?)?;
-    check_causes(&rt, &mut two_levels::<Evbdd>(rt.alloc(), Decomp::S, 1)?)?;
-    check_causes(&rt, &mut two_levels::<StarBmd>(rt.alloc(), Decomp::P, 1)?)?;
-    check_causes(&rt, &mut two_levels::<KStarBmd>(rt.alloc(), Decomp::S, 1)?)
+    check_causes(&rt, &mut two_levels::<Hdd>(rt.alloc(), Decomp::N, 1, 0)?)?;
+    check_causes(&rt, &mut two_levels::<Evbdd>(rt.alloc(), Decomp::S, 1, 0)?)?;
+    check_causes(&rt, &mut two_levels::<StarBmd>(rt.alloc(), Decomp::P, 1, 0)?)?;
+    check_causes(&rt, &mut two_levels::<KStarBmd>(rt.alloc(), Decomp::S, 1, 0)?)
 }

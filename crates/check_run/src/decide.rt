@@ -25,6 +25,9 @@ use word_base::{Assign, KindName, Levels, LevelsFault, Weight};
 /// How many nodes a check's store holds at most.
 pub const CELLS: u32 = 262_144;
 
+/// The logarithm of how many results a check's builder remembers at most.
+const CACHE_LOG: u32 = 16;
+
 /// The levels of the inputs.
 fn levels_of(alloc: Global, spec: &Spec) -> Result<Levels, AllocError>
     requires { length spec.now.order ≤ 256 }
@@ -116,7 +119,10 @@ fn decide_by<K: Kind>(
     let _inputs = netlist.inputs();
     let levels = levels_of(alloc, spec)?;
     let store = SoloStore::create(alloc, CELLS)?;
-    let mut builder = Builder::<K, SoloStore>::create(store, levels);
+    let mut builder = match Builder::<K, SoloStore>::create(alloc, store, levels, CACHE_LOG) {
+        Ok(builder) => builder,
+        Err(_) => return Err(AllocError),
+    };
     match build_one(alloc, &mut builder, netlist, spec, check) {
         Ok(sides) => compare(alloc, &mut builder, netlist, spec, check, sides),
         Err(error) => {

@@ -14,7 +14,7 @@ returns g c = λ l t u h e.
     let laws = g.met.K.Kind g.world.𝓛 g.world.𝓜 g.world.𝓡 ((λ s x. x), (λ x. x), (λ x. x), λ x. x) in
     let a = c.args.a in
     let b = c.args.b in
-    let good = subst (IsGood k) c.self.view_is c.self.invariant in
+    let good = subst (IsGood k) c.self.view_is c.self.invariant.good in
     let tells = same_tells k c.args.self.now (plain number a) (plain number b) good l t u h e in (
       λ yes.
           let all = and_parts _ _ (sym c.eq.ensures ∙ yes) in
