@@ -23,6 +23,7 @@ use Rattle.kinds.specs.declared.fields.Fields.{Fields}
 use Rattle.kinds.proofs.BodyLaws.{body_of-tells}
 use Rattle.kinds.proofs.GraphLaws.{same_shape_of_id, same_id_of_shape, leaf_of_zero}
 use Rattle.builder.specs.Below.{IsCount, Descends, IsStart, IsNumbered, IsClosed, AreMarked, MarksNodes}
+use Rattle.result_cache.specs.Cache.{Places}
 use Rattle.builder.specs.Inside.{IsSound}
 use Rattle.builder.specs.View.{View, StandsAt, IsEdge}
 use Rattle.builder.proofs.NodeLists.{from_level, added_closed, known_adds_none}
@@ -57,11 +58,11 @@ edge_starts k v e h = record {
   descends = canonical_descends k v.letters 0 (canonical k v.letters 0 h.0) (canonical_stands k (rule_of k) v.letters 0 h.0 h.1.allowed h.1.stands.over).0;
 }
 
-pub sound_is_numbered : (k : KindName) (v : View) (marks : List Bool) → IsSound k v marks → IsNumbered (find_in v.store) (length marks)
-sound_is_numbered k v marks sound = record {
+pub sound_is_numbered : (k : KindName) (v : View) (cache : Places) (marks : List Bool) → IsSound k v cache marks → IsNumbered (find_in v.store) (length marks)
+sound_is_numbered k v cache marks sound = record {
   no_zero = sound.good.store.no_zero;
   distinct = sound.good.store.distinct;
-  within = λ id body known. let low = sound.within id body known in let room = sound.room in omega arith;
+  within = λ id body known. let low = sound.marked.within id body known in let room = sound.marked.room in omega arith;
 }
 
 -- an id that is not the leaf's is that of a node

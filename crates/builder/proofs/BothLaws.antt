@@ -78,26 +78,30 @@ constant_answers_each k v op ps l t a x value result is_a exact is h covers =
     constant_answers k v ps l (each op t) (op x) value result h.allowed h.no_zero h.within table exact is covers
 
 -- ---- the level of the upper node
-pub both_leaves : (k : KindName) (v : View) (a b : PlainEdge) (level end : ℕ) → IsEdge k v a → IsEdge k v b → level ≡ min (top_of v a.node) (top_of v b.node) →
-    end ≡ length v.letters → level ≡ end → (a.node ≡ 0) × (b.node ≡ 0)
-both_leaves k v a b level end good_a good_b is ends same =
+both_leaves : (k : KindName) (v : View) (a b : PlainEdge) (level : ℕ) → IsEdge k v a → IsEdge k v b → level ≡ min (top_of v a.node) (top_of v b.node) →
+    level ≡ length v.letters → (a.node ≡ 0) × (b.node ≡ 0)
+both_leaves k v a b level good_a good_b is end =
     let first = top_within k v a good_a in
     let second = top_within k v b good_b in
     (leaf_at_end k v a good_a (omega arith), leaf_at_end k v b good_b (omega arith))
 
-pub can_part_first : (k : KindName) (v : View) (a b : PlainEdge) (level end : ℕ) → IsEdge k v a → level ≡ min (top_of v a.node) (top_of v b.node) →
-    end ≡ length v.letters → (level ≡ end → ⊥) → CanPart k v level a
-can_part_first k v a b level end good is ends apart =
-    let within = top_within k v a good in
-    let other : level ≢ end = apart in
-    record { good = good; below = omega arith; not_above = omega arith }
+-- two edges, of which one leads to a node
+pub record HaveNode (k : KindName) (v : View) (a b : PlainEdge) : Type 0 where
+  pub first : IsEdge k v a
+  pub second : IsEdge k v b
+  pub some : (a.node ≡ 0) × (b.node ≡ 0) → ⊥
 
-pub can_part_second : (k : KindName) (v : View) (a b : PlainEdge) (level end : ℕ) → IsEdge k v a → IsEdge k v b → level ≡ min (top_of v a.node) (top_of v b.node) →
-    end ≡ length v.letters → (level ≡ end → ⊥) → CanPart k v level b
-can_part_second k v a b level end good_a good is ends apart =
-    let within = top_within k v a good_a in
-    let other : level ≢ end = apart in
-    record { good = good; below = omega arith; not_above = omega arith }
+pub can_part_first : (k : KindName) (v : View) (a b : PlainEdge) (level : ℕ) → HaveNode k v a b → level ≡ min (top_of v a.node) (top_of v b.node) → CanPart k v level a
+can_part_first k v a b level have is =
+    let within = top_within k v a have.first in
+    let other : level ≢ length v.letters = λ end. have.some (both_leaves k v a b level have.first have.second is end) in
+    record { good = have.first; below = omega arith; not_above = omega arith }
+
+pub can_part_second : (k : KindName) (v : View) (a b : PlainEdge) (level : ℕ) → HaveNode k v a b → level ≡ min (top_of v a.node) (top_of v b.node) → CanPart k v level b
+can_part_second k v a b level have is =
+    let within = top_within k v a have.first in
+    let other : level ≢ length v.letters = λ end. have.some (both_leaves k v a b level have.first have.second is end) in
+    record { good = have.second; below = omega arith; not_above = omega arith }
 
 -- ---- parts
 pub lies_below : (k : KindName) (v : View) (level : ℕ) (t : Table) (e : PlainEdge) → StandsAt k v (level + 1) t e → LiesBelow k v level e

@@ -20,14 +20,10 @@ use Rattle.builder.proofs.LevelLaws.{leaf_at_end, good_at, stands_somewhere, top
 use Rattle.builder.proofs.StoreLaws.{keeps_itself}
 
 -- ---- the level of the edge's node
-pub leaf_at : (k : KindName) (v : View) (a : PlainEdge) (level end : ℕ) → IsEdge k v a → level ≡ top_of v a.node → end ≡ length v.letters → level ≡ end → a.node ≡ 0
-leaf_at k v a level end good is ends same = leaf_at_end k v a good (omega arith)
-
-pub can_part_at : (k : KindName) (v : View) (a : PlainEdge) (level end : ℕ) → IsEdge k v a → level ≡ top_of v a.node → end ≡ length v.letters → (level ≡ end → ⊥) →
-    CanPart k v level a
-can_part_at k v a level end good is ends apart =
+pub can_part_at : (k : KindName) (v : View) (a : PlainEdge) (level : ℕ) → IsEdge k v a → a.node ≢ 0 → level ≡ top_of v a.node → CanPart k v level a
+can_part_at k v a level good some is =
     let within = top_within k v a good in
-    let other : level ≢ end = apart in
+    let other : level ≢ length v.letters = λ end. some (leaf_at_end k v a good (omega arith)) in
     record { good = good; below = omega arith; not_above = omega arith }
 
 -- ---- parts

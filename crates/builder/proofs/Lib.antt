@@ -16,6 +16,7 @@ pub mod NodeLists
 pub mod PartLaws
 pub mod ProductCalls
 pub mod ProductLaws
+pub mod RememberedLaws
 pub mod SameLaws
 pub mod StepLaws
 pub mod StoreLaws

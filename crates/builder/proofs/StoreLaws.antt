@@ -1,5 +1,5 @@
 -- The store of a builder after a body was interned: it stays good, and all that was known is known.
-use Rattle.std.proofs.Common.{◌≡◌, refl, sym, ◌∙◌, ap, subst, ℕ, ◌<◌, ◌≤◌, List, [], ◌∷◌, ◌++◌, append_assoc, arith, inl, inr}
+use Rattle.std.proofs.Common.{◌≡◌, refl, sym, ◌∙◌, ap, subst, ℕ, ◌<◌, ◌≤◌, Bool, List, [], ◌∷◌, ◌++◌, length, append_assoc, arith, inl, inr, ⊎_elim}
 use Rattle.std.specs.Prelude.{Option, Some, None, Result, Ok, ◌⊎◌, IfOk}
 use Rattle.std.proofs.lemmas.Option.{same_Some}
 use Rattle.std.proofs.lemmas.List.{append-nil}
@@ -11,6 +11,7 @@ use Rattle.tables.specs.Table.{Table}
 use Rattle.tables.specs.Tree.{Weights}
 use Rattle.kinds.specs.Graph.{StandsFor}
 use Rattle.kinds.proofs.GraphLaws.{StandsFor-extends}
+use Rattle.builder.specs.Inside.{HasMarks}
 use Rattle.builder.specs.View.{View, Keeps, IsGood}
 
 none_if : {X : Type 0} (o : Option X) → ((x : X) → o ≡ Some x → ⊥) → o ≡ None
@@ -21,11 +22,12 @@ none_if (Some x) h = absurd (h x refl)
 record IsAnswered (w : StoreView) (body : List ℕ) (id : ℕ) : Type 0 where
   found : find_in w id ≡ Some body
   above : 0 < id
+  within : id ≤ w.room
 
 answered_id : (v w : StoreView) (body : List ℕ) (result : Result ℕ StoreFull) (id : ℕ) → Interns v w body result → result ≡ Ok id → IsAnswered w body id
 answered_id v w body result id interns is =
     let at = subst (λ (r : Result ℕ StoreFull). IfOk r (λ i. (find_in w i ≡ Some body) × (0 < i) × (i ≤ w.room))) is interns.answers in
-    record { found = at.0; above = at.1 }
+    record { found = at.0; above = at.1; within = at.2 }
 
 pub still_no_zero : (v w : StoreView) (body : List ℕ) (result : Result ℕ StoreFull) → Interns v w body result → find_in v 0 ≡ None → find_in w 0 ≡ None
 still_no_zero v w body result interns no_zero =
@@ -105,3 +107,13 @@ interned_good k v w body result good interns stands = record {
         let s = good.store.good i b was in
         (s.0, s.1, StandsFor-extends k (find_in v.store) (find_in w) v.letters 0 s.0 s.1 i interns.stays s.2)
     some_table i b (inr is) = stands i is
+
+-- there are marks for all nodes after a body came in
+pub interned_marks : (v w : StoreView) (body : List ℕ) (result : Result ℕ StoreFull) (marks : List Bool) → Interns v w body result → HasMarks v marks → HasMarks w marks
+interned_marks v w body result marks interns has = record {
+  within = λ id b known. ⊎_elim
+      (λ before. subst (λ (n : ℕ). id ≤ n) (sym interns.room) (has.within id b before))
+      (λ is. (answered_id v w body result id interns is).within)
+      (interns.at_most id b known);
+  room = subst (λ (n : ℕ). n ≤ length marks) (sym interns.room) has.room;
+}

@@ -5,4 +5,5 @@ pub mod Cofactor
 pub mod Contents
 pub mod Inside
 pub mod Products
+pub mod Remembered
 pub mod View

@@ -1,4 +1,4 @@
-ghost use Rattle.std.specs.Prelude.{◌≡◌, ◌≢◌, ℕ, ◌<◌, ◌≤◌, ◌↔◌, Some, None, IfOk, IfErr, length, drop, true, IsTrue};
+ghost use Rattle.std.specs.Prelude.{◌≡◌, ◌≢◌, ℕ, ◌<◌, ◌≤◌, ◌↔◌, Some, None, length, drop, true, IfErr, IfOk, IfSome, IsTrue};
 ghost use Rattle.tables.specs.Table.{Table, constant_table};
 ghost use Rattle.tables.specs.Laws.{are_allowed};
 ghost use Rattle.kinds.specs.Kind.{IsNodeBody};
@@ -6,21 +6,25 @@ ghost use Rattle.kinds.specs.Plain.{plain, constant_edge, answered};
 ghost use Rattle.record_store.specs.Interns.{Interns};
 ghost use Rattle.record_store.specs.StoreView.{find_in};
 ghost use Rattle.builder.specs.Calls.{CanPart, skipped_high, ArePartsOf, CanJoin, IsJoin, IsVariable, variable_low, variable_high, KeepsGood};
+ghost use Rattle.builder.specs.Remembered.{IsResult};
 ghost use Rattle.builder.specs.View.{View, letter_at, StandsAt, IsEdge, top_of, Keeps, IsGood};
 
 use crate::limit::Limit;
+use crate::operation::Operation;
 use kinds::{Edge, Joined, Kind, level_of};
 use marks::Marks;
 use record_store::{Store, StoreFull};
+use result_cache::{MAX_LOG, ResultCache};
 use std::alloc::Global;
 use std::marker::{Model, PhantomData};
 use word_base::{Decomp, Levels, Overflow, Weight};
 
-/// A store of nodes, and the levels that they stand at.
+/// A store of nodes, the levels that they stand at, and results of operations that are remembered.
 #[derive(Drop)]
 pub struct Builder<K: Kind, S: Store> {
     pub(crate) store: S,
     levels: Levels,
+    cache: ResultCache,
     /// The nodes that a walk has met.
     pub(crate) marks: Marks,
     kind: PhantomData<K>,
@@ -36,28 +40,34 @@ impl<K: Kind, S: Store> Model for Builder<K, S> {
 
     ghost view = { λ b. record { store = S.view b.store; letters = b.levels } };
 
-    ghost invariant = { λ b. IsSound K.NAME (record { store = S.view b.store; letters = b.levels }) b.marks };
+    ghost invariant = { λ b. IsSound K.NAME (record { store = S.view b.store; letters = b.levels }) b.cache b.marks };
 }
 
 impl<K: Kind, S: Store> Builder<K, S> {
-    /// A builder over a store that knows no node, with levels whose letters the kind allows. It takes the marks of so many
-    /// nodes here. Where there is no memory for them it hands both values back.
+    /// A builder over a store that knows no node, with levels whose letters the kind allows. It takes all its memory here: marks for so
+    /// many nodes, and room for `2^cache_log` results. Where that is wanting it hands both values back.
     pub fn create(
         alloc: Global,
         store: S,
         levels: Levels,
         cells: u32,
+        cache_log: u32,
     ) -> Result<Builder<K, S>, (S, Levels)>
         requires empty { (id : ℕ) → find_in (S.view store) id ≡ None }
         requires allowed { are_allowed K.NAME levels ≡ true }
         requires room { (S.view store).room ≤ cells }
+        requires log { cache_log ≤ MAX_LOG }
         ensures made { IfOk result (λ b. b ≡ record { store = S.view store; letters = levels }) }
         ensures handed_back { IfErr result (λ both. both ≡ (store, levels)) }
     {
-        match Marks::create(alloc, cells) {
-            Ok(marks) => Ok(Builder {
+        let Ok(marks) = Marks::create(alloc, cells) else {
+            return Err((store, levels));
+        };
+        match ResultCache::create(alloc, cache_log) {
+            Ok(cache) => Ok(Builder {
                 store,
                 levels,
+                cache,
                 marks,
                 kind: PhantomData,
             }),
@@ -148,6 +158,27 @@ impl<K: Kind, S: Store> Builder<K, S> {
         ensures letters { self.new.letters ≡ self.old.letters }
     {
         self.store.intern(body)
+    }
+
+    /// What is remembered of an operation on two edges.
+    pub(crate) fn look_up(&self, operation: Operation, a: Edge<K>, b: Edge<K>) -> Option<Edge<K>>
+        ensures { IfSome result (λ r. IsResult operation K.NAME self.now (plain K.extra_of a) (plain K.extra_of b) (plain K.extra_of r)) }
+    {
+        let _store = &self.store;
+        match self.cache.look(&operation.key(a, b)) {
+            Some(words) => Some(K::unpack(words)),
+            None => None,
+        }
+    }
+
+    /// Remembers the result of an operation on two edges.
+    pub(crate) fn remember(&mut self, operation: Operation, a: Edge<K>, b: Edge<K>, answer: Edge<K>)
+        requires a_good { IsEdge K.NAME self.old (plain K.extra_of a) }
+        requires b_good { IsEdge K.NAME self.old (plain K.extra_of b) }
+        requires is_result { IsResult operation K.NAME self.old (plain K.extra_of a) (plain K.extra_of b) (plain K.extra_of answer) }
+        ensures { self.new ≡ self.old }
+    {
+        self.cache.keep(operation.key(a, b), K::pack(answer));
     }
 
     /// The edge whose parts at a level are the two, which lie below it.

@@ -9,8 +9,10 @@ mod count;
 mod difference;
 mod limit;
 mod multiple;
+mod operation;
 mod parts;
 mod product;
+mod remembered;
 mod sum;
 #[cfg(test)]
 mod tests;

@@ -1,3 +1,4 @@
+ghost use Rattle.std.specs.Prelude.{◌≢◌};
 ghost use Rattle.tables.specs.Table.{multiple, opposite};
 ghost use Rattle.tables.specs.Pieces.{scale_work, neg_work};
 ghost use Rattle.kinds.specs.Plain.{plain, answered};
@@ -6,6 +7,7 @@ ghost use Rattle.builder.specs.View.{View, IsEdge, Keeps};
 
 use crate::builder::Builder;
 use crate::limit::Limit;
+use crate::operation::Operation;
 use kinds::{Edge, Kind};
 use record_store::Store;
 use word_base::Weight;
@@ -19,10 +21,28 @@ impl<K: Kind, S: Store> Builder<K, S> {
         ensures multiple { IsOfEach (multiple factor) (scale_work factor) K.NAME self.old self.new (plain K.extra_of a)
             (answered (plain K.extra_of) result) }
     {
-        let level = self.top(a);
-        if level == self.levels() {
+        if a.node == 0 {
             return self.constant_of(factor.mul(K::value(a)));
         }
+        let constant = self.constant(factor);
+        if let Some(multiple) = self.known_product(constant, a) {
+            return Ok(multiple);
+        }
+        let multiple = self.scale_anew(factor, a)?;
+        self.remember(Operation::Product, constant, a, multiple);
+        Ok(multiple)
+    }
+
+    /// The multiple of an edge to a node, by its parts.
+    #[cycle(multiple)]
+    fn scale_anew(&mut self, factor: Weight, a: Edge<K>) -> Result<Edge<K>, Limit>
+        requires good { IsEdge K.NAME self.old (plain K.extra_of a) }
+        requires no_leaf { a.node ≢ 0 }
+        ensures keeps { Keeps self.old self.new }
+        ensures multiple { IsOfEach (multiple factor) (scale_work factor) K.NAME self.old self.new (plain K.extra_of a)
+            (answered (plain K.extra_of) result) }
+    {
+        let level = self.top(a);
         let parts = self.parts(a, level)?;
         self.scale_at(level, factor, parts.0, parts.1)
     }

@@ -1,4 +1,4 @@
-ghost use Rattle.std.specs.Prelude.{◌≡◌, min};
+ghost use Rattle.std.specs.Prelude.{◌≡◌, ◌↔◌, min, IsTrue};
 ghost use Rattle.kinds.specs.Plain.{plain, answered};
 ghost use Rattle.builder.specs.Calls.{ArePartsOfBoth, IsConstantOf, plain_parts, CanPart};
 ghost use Rattle.builder.specs.View.{View, IsEdge, top_of};
@@ -59,4 +59,11 @@ impl<K: Kind, S: Store> Builder<K, S> {
             Err(Overflow) => Err(Limit::Overflow),
         }
     }
+}
+
+/// Whether both edges are constants'.
+pub(crate) fn are_constants<K: Kind>(a: Edge<K>, b: Edge<K>) -> bool
+    ensures { IsTrue result ↔ ((a.node ≡ 0) × (b.node ≡ 0)) }
+{
+    a.node == 0 && b.node == 0
 }

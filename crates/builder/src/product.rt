@@ -8,7 +8,8 @@ ghost use Rattle.builder.specs.View.{View, letter_at, IsEdge, Keeps};
 
 use crate::builder::Builder;
 use crate::limit::Limit;
-use crate::parts::Parts;
+use crate::operation::Operation;
+use crate::parts::{Parts, are_constants};
 use kinds::{Edge, Kind};
 use record_store::Store;
 use word_base::Decomp;
@@ -23,10 +24,28 @@ impl<K: Kind, S: Store> Builder<K, S> {
         ensures product { IsOfBoth times (product_work self.old.letters) K.NAME self.old self.new
             (plain K.extra_of a) (plain K.extra_of b) (answered (plain K.extra_of) result) }
     {
-        let level = self.upper(a, b);
-        if level == self.levels() {
+        if are_constants(a, b) {
             return self.constant_of(K::value(a).mul(K::value(b)));
         }
+        if let Some(product) = self.known_product(a, b) {
+            return Ok(product);
+        }
+        let product = self.mul_anew(a, b)?;
+        self.remember(Operation::Product, a, b, product);
+        Ok(product)
+    }
+
+    /// The product of two edges that are not both constants', by their parts.
+    #[cycle(product)]
+    fn mul_anew(&mut self, a: Edge<K>, b: Edge<K>) -> Result<Edge<K>, Limit>
+        requires a_good { IsEdge K.NAME self.old (plain K.extra_of a) }
+        requires b_good { IsEdge K.NAME self.old (plain K.extra_of b) }
+        requires some_node { (a.node ≡ 0) × (b.node ≡ 0) → ⊥ }
+        ensures keeps { Keeps self.old self.new }
+        ensures product { IsOfBoth times (product_work self.old.letters) K.NAME self.old self.new
+            (plain K.extra_of a) (plain K.extra_of b) (answered (plain K.extra_of) result) }
+    {
+        let level = self.upper(a, b);
         let parts = self.parts_of_both(a, b, level)?;
         self.mul_at(level, parts)
     }

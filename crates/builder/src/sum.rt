@@ -1,3 +1,4 @@
+ghost use Rattle.std.specs.Prelude.{◌≡◌};
 ghost use Rattle.tables.specs.Table.{plus};
 ghost use Rattle.tables.specs.Pieces.{add_work};
 ghost use Rattle.kinds.specs.Plain.{plain, answered};
@@ -6,7 +7,8 @@ ghost use Rattle.builder.specs.View.{View, IsEdge, Keeps};
 
 use crate::builder::Builder;
 use crate::limit::Limit;
-use crate::parts::Parts;
+use crate::operation::Operation;
+use crate::parts::{Parts, are_constants};
 use kinds::{Edge, Kind};
 use record_store::Store;
 
@@ -20,10 +22,28 @@ impl<K: Kind, S: Store> Builder<K, S> {
         ensures sum { IsOfBoth plus add_work K.NAME self.old self.new (plain K.extra_of a) (plain K.extra_of b)
             (answered (plain K.extra_of) result) }
     {
-        let level = self.upper(a, b);
-        if level == self.levels() {
+        if are_constants(a, b) {
             return self.constant_of(K::value(a).add(K::value(b)));
         }
+        if let Some(sum) = self.known_sum(a, b) {
+            return Ok(sum);
+        }
+        let sum = self.add_anew(a, b)?;
+        self.remember(Operation::Sum, a, b, sum);
+        Ok(sum)
+    }
+
+    /// The sum of two edges that are not both constants', by their parts.
+    #[cycle(sum)]
+    fn add_anew(&mut self, a: Edge<K>, b: Edge<K>) -> Result<Edge<K>, Limit>
+        requires a_good { IsEdge K.NAME self.old (plain K.extra_of a) }
+        requires b_good { IsEdge K.NAME self.old (plain K.extra_of b) }
+        requires some_node { (a.node ≡ 0) × (b.node ≡ 0) → ⊥ }
+        ensures keeps { Keeps self.old self.new }
+        ensures sum { IsOfBoth plus add_work K.NAME self.old self.new (plain K.extra_of a) (plain K.extra_of b)
+            (answered (plain K.extra_of) result) }
+    {
+        let level = self.upper(a, b);
         let parts = self.parts_of_both(a, b, level)?;
         self.add_at(level, parts)
     }

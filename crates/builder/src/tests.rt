@@ -79,22 +79,21 @@ impl Term<'_> {
     }
 }
 
-/// A builder with two levels.
+/// A builder with two levels, which remembers few results.
 fn two_levels<K: Kind>(
     alloc: Global,
     letters: &[Decomp; 2],
     cells: u32,
+    cache_log: u32,
 ) -> Result<Builder<K, SoloStore>, Fail>
     requires allowed { are_allowed K.NAME letters.now ≡ true }
     requires some { 0 < cells }
     requires within { cells ≤ 1000 }
+    requires few { cache_log ≤ 8 }
 {
     let levels = Levels::new(alloc, letters)?;
     let store = SoloStore::create(alloc, cells)?;
-    match Builder::create(alloc, store, levels, cells) {
-        Ok(builder) => Ok(builder),
-        Err(_) => Err("no memory".into()),
-    }
+    Builder::create(alloc, store, levels, cells, cache_log).map_err(|_| Fail::from("no memory"))
 }
 
 /// Whether two terms have one edge.
@@ -135,11 +134,11 @@ fn check_terms<K: Kind>(rt: &impl Abort, builder: &mut Builder<K, SoloStore>) ->
 fn terms_with_one_meaning_have_one_edge(rt: HostRuntime) -> Result<(), Fail> {
     for letter in [Decomp::S, Decomp::P, Decomp::N] {
         let letters = [letter, letter];
-        check_terms(&rt, &mut two_levels::<Hdd>(rt.alloc(), &letters, 100)?)?;
-        check_terms(&rt, &mut two_levels::<KStarBmd>(rt.alloc(), &letters, 100)?)?;
+        check_terms(&rt, &mut two_levels::<Hdd>(rt.alloc(), &letters, 100, 0)?)?;
+        check_terms(&rt, &mut two_levels::<KStarBmd>(rt.alloc(), &letters, 100, 1)?)?;
     }
-    check_terms(&rt, &mut two_levels::<Evbdd>(rt.alloc(), &SHANNON, 100)?)?;
-    check_terms(&rt, &mut two_levels::<StarBmd>(rt.alloc(), &POSITIVE, 100)?)
+    check_terms(&rt, &mut two_levels::<Evbdd>(rt.alloc(), &SHANNON, 100, 2)?)?;
+    check_terms(&rt, &mut two_levels::<StarBmd>(rt.alloc(), &POSITIVE, 100, 8)?)
 }
 
 fn check_causes<K: Kind>(rt: &impl Abort, builder: &mut Builder<K, SoloStore>) -> Result<(), Fail> {
@@ -159,10 +158,10 @@ fn check_causes<K: Kind>(rt: &impl Abort, builder: &mut Builder<K, SoloStore>) -
 
 #[test]
 fn a_store_of_one_node_is_full(rt: HostRuntime) -> Result<(), Fail> {
-    check_causes(&rt, &mut two_levels::<Hdd>(rt.alloc(), &NEGATIVE, 1)?)?;
-    check_causes(&rt, &mut two_levels::<Evbdd>(rt.alloc(), &SHANNON, 1)?)?;
-    check_causes(&rt, &mut two_levels::<StarBmd>(rt.alloc(), &POSITIVE, 1)?)?;
-    check_causes(&rt, &mut two_levels::<KStarBmd>(rt.alloc(), &SHANNON, 1)?)
+    check_causes(&rt, &mut two_levels::<Hdd>(rt.alloc(), &NEGATIVE, 1, 0)?)?;
+    check_causes(&rt, &mut two_levels::<Evbdd>(rt.alloc(), &SHANNON, 1, 1)?)?;
+    check_causes(&rt, &mut two_levels::<StarBmd>(rt.alloc(), &POSITIVE, 1, 2)?)?;
+    check_causes(&rt, &mut two_levels::<KStarBmd>(rt.alloc(), &SHANNON, 1, 8)?)
 }
 
 /// The parts of an edge at a level that is not below its node.
@@ -293,23 +292,23 @@ fn parts_and_joins_by_hand(rt: HostRuntime) -> Result<(), Fail> {
         let letters = [letter, letter];
         check_calls(
             &rt,
-            &mut two_levels::<Hdd>(rt.alloc(), &letters, 100)?,
+            &mut two_levels::<Hdd>(rt.alloc(), &letters, 100, 0)?,
             letter,
         )?;
         check_calls(
             &rt,
-            &mut two_levels::<KStarBmd>(rt.alloc(), &letters, 100)?,
+            &mut two_levels::<KStarBmd>(rt.alloc(), &letters, 100, 1)?,
             letter,
         )?;
     }
     check_calls(
         &rt,
-        &mut two_levels::<Evbdd>(rt.alloc(), &SHANNON, 100)?,
+        &mut two_levels::<Evbdd>(rt.alloc(), &SHANNON, 100, 2)?,
         Decomp::S,
     )?;
     check_calls(
         &rt,
-        &mut two_levels::<StarBmd>(rt.alloc(), &POSITIVE, 100)?,
+        &mut two_levels::<StarBmd>(rt.alloc(), &POSITIVE, 100, 8)?,
         Decomp::P,
     )
 }
@@ -333,7 +332,7 @@ fn half_at<K: Kind>(
 /// No two of a variable and what it lacks to 1 are 1 together.
 #[test]
 fn cofactor_of_a_product_of_complements(rt: HostRuntime) -> Result<(), Fail> {
-    let mut builder = two_levels::<Hdd>(rt.alloc(), &NEGATIVE, 100)?;
+    let mut builder = two_levels::<Hdd>(rt.alloc(), &NEGATIVE, 100, 0)?;
     let one = Term::Constant(Weight::ONE);
     let not_x = Term::Difference(&one, &X);
     let not_y = Term::Difference(&one, &Y);
@@ -443,17 +442,17 @@ fn halves_of_halves_are_values(rt: HostRuntime) -> Result<(), Fail> {
     for first in [Decomp::S, Decomp::P, Decomp::N] {
         for second in [Decomp::S, Decomp::P, Decomp::N] {
             let letters = [first, second];
-            check_halves(&rt, &mut two_levels::<Hdd>(rt.alloc(), &letters, 1000)?)?;
+            check_halves(&rt, &mut two_levels::<Hdd>(rt.alloc(), &letters, 1000, 1)?)?;
             check_halves(
                 &rt,
-                &mut two_levels::<KStarBmd>(rt.alloc(), &letters, 1000)?,
+                &mut two_levels::<KStarBmd>(rt.alloc(), &letters, 1000, 2)?,
             )?;
         }
     }
-    check_halves(&rt, &mut two_levels::<Evbdd>(rt.alloc(), &SHANNON, 1000)?)?;
+    check_halves(&rt, &mut two_levels::<Evbdd>(rt.alloc(), &SHANNON, 1000, 8)?)?;
     check_halves(
         &rt,
-        &mut two_levels::<StarBmd>(rt.alloc(), &POSITIVE, 1000)?,
+        &mut two_levels::<StarBmd>(rt.alloc(), &POSITIVE, 1000, 0)?,
     )
 }
 

@@ -26,6 +26,9 @@ use star_bmd::StarBmd;
 use std::alloc::{AllocError, Global};
 use word_base::{Assign, KindName, Levels, LevelsFault, Weight};
 
+/// The logarithm of how many results a check's builder remembers at most.
+const CACHE_LOG: u32 = 16;
+
 /// The levels of the inputs.
 fn levels_of(alloc: Global, spec: &Spec) -> Result<Levels, AllocError>
     requires { length spec.now.order ≤ 256 }
@@ -122,7 +125,7 @@ fn decide_by<K: Kind>(
     let _inputs = netlist.inputs();
     let levels = levels_of(alloc, spec)?;
     let store = SoloStore::create(alloc, cells)?;
-    let mut builder = match Builder::<K, SoloStore>::create(alloc, store, levels, cells) {
+    let mut builder = match Builder::<K, SoloStore>::create(alloc, store, levels, cells, CACHE_LOG) {
         Ok(builder) => builder,
         Err(_) => return Err(AllocError),
     };

@@ -168,7 +168,7 @@ fn three_levels<K: Kind>(
 {
     let levels = Levels::new(alloc, letters)?;
     let store = SoloStore::create(alloc, cells)?;
-    Ok(Builder::create(store, levels))
+    Builder::create(alloc, store, levels, cells, 4).map_err(|_| Fail::from("no memory"))
 }
 
 /// The walk between two edges, which the levels from `top` on tell apart.

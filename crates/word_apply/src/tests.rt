@@ -25,7 +25,7 @@ fn two_levels<K: Kind>(alloc: Global, letter: Decomp) -> Result<Builder<K, SoloS
 {
     let levels = Levels::new(alloc, &[letter, letter])?;
     let store = SoloStore::create(alloc, 100)?;
-    Ok(Builder::create(store, levels))
+    Builder::create(alloc, store, levels, 100, 4).map_err(|_| Fail::from("no memory"))
 }
 
 fn bit(value: bool) -> Weight {

@@ -7,9 +7,11 @@ use Rattle.builder.specs.Calls.{CanPart, ArePartsOfBoth, IsOfBoth, IsOfParts, Li
 use Rattle.builder.specs.Products.{product_work, mixed_products, high_products}
 use Rattle.builder.specs.View.{View, letter_at, top_of}
 use Rattle.builder.specs.declared.limit.Limit.TheVariants as limit
-use Rattle.builder.proofs.BothLaws.{constant_is, constants_answer, both_leaves, can_part_first, can_part_second, parts_lie_below}
+use Rattle.builder.proofs.BothLaws.{constant_is, constants_answer, HaveNode, can_part_first, can_part_second, parts_lie_below}
 use Rattle.builder.proofs.CallLaws.{same_keeps, both_of_parts, both_unfit}
 use Rattle.builder.proofs.LevelLaws.{still_edge, good_at}
+use Rattle.builder.specs.declared.operation.Operation.TheVariants.{Product}
+use Rattle.builder.proofs.RememberedLaws.{known_both, both_result}
 use Rattle.builder.proofs.StoreLaws.{keeps_on, keeps_itself}
 use Rattle.builder.proofs.StepLaws.{first_refuses, second_refuses, last_answers, sum_step}
 use Rattle.builder.proofs.ProductLaws.{mul_by_halves, product_covers_product, product_covers_operands}
@@ -19,61 +21,92 @@ use Rattle.builder.proofs.builder.Builder.+product.Goals as goal
 
 pub mul-value-requires : goal.mul-value-requires
 mul-value-requires g t c =
+    constant_is g.K.Kind.NAME c.args.self.now (plain g.K.Kind.extra_of c.args.a) c.requires.a_good (c.are_constants.ensures.0 c.if-are_constants.true).0
+
+pub mul-value-requires-then-are_constants : goal.mul-value-requires-then-are_constants
+mul-value-requires-then-are_constants g t c =
+    constant_is g.K.Kind.NAME c.args.self.now (plain g.K.Kind.extra_of c.args.b) c.requires.b_good (c.are_constants.ensures.0 c.if-are_constants.true).1
+
+pub mul-returns-then-are_constants-clause-product : goal.mul-returns-then-are_constants-clause-product
+mul-returns-then-are_constants-clause-product g t c = λ l x y h e.
     let k = g.K.Kind.NAME in
     let v = c.args.self.now in
     let a = plain g.K.Kind.extra_of c.args.a in
     let b = plain g.K.Kind.extra_of c.args.b in
-    let ends = c.levels.ensures.count ∙ ap (λ (w : View). length w.letters) c.upper-level.ensures.unchanged in
-    constant_is k v a c.requires.a_good (both_leaves k v a b c.upper-level.result c.levels.result c.requires.a_good c.requires.b_good c.upper-level.ensures.upper ends c.if-level-levels.true).0
+    constants_answer k v (λ m n. m *ℤ n) (product_work v.letters l x y) l x y a b c.value.result c.value-then-are_constants.result c.mul.result _
+    c.value.ensures c.value-then-are_constants.ensures c.mul.ensures c.constant_of.ensures h e (product_covers_product k v.letters l x y)
 
-pub mul-value-requires-then-level-levels : goal.mul-value-requires-then-level-levels
-mul-value-requires-then-level-levels g t c =
+pub mul-returns-in-Some-clause-product : goal.mul-returns-in-Some-clause-product
+mul-returns-in-Some-clause-product g t c =
     let k = g.K.Kind.NAME in
     let v = c.args.self.now in
     let a = plain g.K.Kind.extra_of c.args.a in
     let b = plain g.K.Kind.extra_of c.args.b in
-    let ends = c.levels.ensures.count ∙ ap (λ (w : View). length w.letters) c.upper-level.ensures.unchanged in
-    constant_is k v b c.requires.b_good (both_leaves k v a b c.upper-level.result c.levels.result c.requires.a_good c.requires.b_good c.upper-level.ensures.upper ends c.if-level-levels.true).1
+    known_both Product k (product_work v.letters) v a b (plain g.K.Kind.extra_of c.in-Some.product) c.in-Some.ensures
 
-pub mul-returns-then-level-levels-clause-keeps : goal.mul-returns-then-level-levels-clause-keeps
-mul-returns-then-level-levels-clause-keeps g t c = same_keeps c.args.self.now c.upper-level.new.self c.upper-level.ensures.unchanged
+pub mul-remember-requires-clause-is_result : goal.mul-remember-requires-clause-is_result
+mul-remember-requires-clause-is_result g t c = λ lives bounds.
+    let k = g.K.Kind.NAME in
+    let v = c.args.self.now in
+    let w = c.mul_anew.new.self in
+    let a = plain g.K.Kind.extra_of c.args.a in
+    let b = plain g.K.Kind.extra_of c.args.b in
+    both_result Product k (product_work v.letters) v w a b (plain g.K.Kind.extra_of c.in_ok-product.product) c.in_ok-product.ensures.keeps c.requires.a_good c.requires.b_good
+    c.in_ok-product.ensures.product
 
-pub mul-returns-then-level-levels-clause-product : goal.mul-returns-then-level-levels-clause-product
-mul-returns-then-level-levels-clause-product g t c =
+pub mul-returns-clause-product : goal.mul-returns-clause-product
+mul-returns-clause-product g t c =
     let k = g.K.Kind.NAME in
     let v = c.args.self.now in
     let a = plain g.K.Kind.extra_of c.args.a in
     let b = plain g.K.Kind.extra_of c.args.b in
-    subst (λ (w : View). IsOfBoth times (product_work v.letters) k v w a b (answered (plain g.K.Kind.extra_of) c.constant_of.result)) (sym c.upper-level.ensures.unchanged)
-    (λ l x y h e. constants_answer k v (λ m n. m *ℤ n) (product_work v.letters l x y) l x y a b c.value.result c.value-then-level-levels.result c.mul.result _
-    c.value.ensures c.value-then-level-levels.ensures c.mul.ensures c.constant_of.ensures h e (product_covers_product k v.letters l x y))
+    subst (λ (w : View). IsOfBoth times (product_work v.letters) k v w a b (Ok (plain g.K.Kind.extra_of c.in_ok-product.product))) (sym c.remember.ensures) c.in_ok-product.ensures.product
 
-pub mul-parts_of_both-requires-clause-a : goal.mul-parts_of_both-requires-clause-a
-mul-parts_of_both-requires-clause-a g t c = λ lives bounds.
+pub mul-returns-then-are_constants-clause-keeps : goal.mul-returns-then-are_constants-clause-keeps
+mul-returns-then-are_constants-clause-keeps g t c = keeps_itself c.args.self.now
+
+pub mul-returns-in_err-product-clause-product : goal.mul-returns-in_err-product-clause-product
+mul-returns-in_err-product-clause-product g t c =
     let k = g.K.Kind.NAME in
     let v = c.args.self.now in
     let a = plain g.K.Kind.extra_of c.args.a in
     let b = plain g.K.Kind.extra_of c.args.b in
-    let ends = c.levels.ensures.count ∙ ap (λ (w : View). length w.letters) c.upper-level.ensures.unchanged in
+    refused_both k times (product_work v.letters) v c.mul_anew.new.self a b (plain g.K.Kind.extra_of) c.from_residual.result c.in_err-product.field-0.0 c.from_residual.ensures.1 c.in_err-product.ensures.product
+
+pub mul-remember-requires-clause-a_good : goal.mul-remember-requires-clause-a_good
+mul-remember-requires-clause-a_good g t c = λ lives bounds.
+    still_edge g.K.Kind.NAME c.args.self.now c.mul_anew.new.self (plain g.K.Kind.extra_of c.args.a) c.in_ok-product.ensures.keeps c.requires.a_good
+
+pub mul-remember-requires-clause-b_good : goal.mul-remember-requires-clause-b_good
+mul-remember-requires-clause-b_good g t c = λ lives bounds.
+    still_edge g.K.Kind.NAME c.args.self.now c.mul_anew.new.self (plain g.K.Kind.extra_of c.args.b) c.in_ok-product.ensures.keeps c.requires.b_good
+
+pub mul_anew-parts_of_both-requires-clause-a : goal.mul_anew-parts_of_both-requires-clause-a
+mul_anew-parts_of_both-requires-clause-a g t c = λ lives bounds.
+    let k = g.K.Kind.NAME in
+    let v = c.args.self.now in
+    let a = plain g.K.Kind.extra_of c.args.a in
+    let b = plain g.K.Kind.extra_of c.args.b in
+    let have : HaveNode k v a b = record { first = c.requires.a_good; second = c.requires.b_good; some = c.requires.some_node } in
     subst (λ (w : View). CanPart k w c.upper-level.result a) (sym c.upper-level.ensures.unchanged)
-    (can_part_first k v a b c.upper-level.result c.levels.result c.requires.a_good c.upper-level.ensures.upper ends c.if-level-levels.false)
+    (can_part_first k v a b c.upper-level.result have c.upper-level.ensures.upper)
 
-pub mul-parts_of_both-requires-clause-b : goal.mul-parts_of_both-requires-clause-b
-mul-parts_of_both-requires-clause-b g t c = λ lives bounds.
+pub mul_anew-parts_of_both-requires-clause-b : goal.mul_anew-parts_of_both-requires-clause-b
+mul_anew-parts_of_both-requires-clause-b g t c = λ lives bounds.
     let k = g.K.Kind.NAME in
     let v = c.args.self.now in
     let a = plain g.K.Kind.extra_of c.args.a in
     let b = plain g.K.Kind.extra_of c.args.b in
-    let ends = c.levels.ensures.count ∙ ap (λ (w : View). length w.letters) c.upper-level.ensures.unchanged in
+    let have : HaveNode k v a b = record { first = c.requires.a_good; second = c.requires.b_good; some = c.requires.some_node } in
     subst (λ (w : View). CanPart k w c.upper-level.result b) (sym c.upper-level.ensures.unchanged)
-    (can_part_second k v a b c.upper-level.result c.levels.result c.requires.a_good c.requires.b_good c.upper-level.ensures.upper ends c.if-level-levels.false)
+    (can_part_second k v a b c.upper-level.result have c.upper-level.ensures.upper)
 
-pub mul-returns-in_err-parts-clause-keeps : goal.mul-returns-in_err-parts-clause-keeps
-mul-returns-in_err-parts-clause-keeps g t c =
+pub mul_anew-returns-in_err-parts-clause-keeps : goal.mul_anew-returns-in_err-parts-clause-keeps
+mul_anew-returns-in_err-parts-clause-keeps g t c =
     same_keeps c.args.self.now c.parts_of_both.new.self (c.in_err-parts.ensures.unchanged ∙ c.upper-level.ensures.unchanged)
 
-pub mul-returns-in_err-parts-clause-product : goal.mul-returns-in_err-parts-clause-product
-mul-returns-in_err-parts-clause-product g t c =
+pub mul_anew-returns-in_err-parts-clause-product : goal.mul_anew-returns-in_err-parts-clause-product
+mul_anew-returns-in_err-parts-clause-product g t c =
     let k = g.K.Kind.NAME in
     let v = c.args.self.now in
     let a = plain g.K.Kind.extra_of c.args.a in
@@ -83,23 +116,23 @@ mul-returns-in_err-parts-clause-product g t c =
     c.upper-level.ensures.unchanged c.in_err-parts.ensures.unchanged c.requires.a_good c.requires.b_good c.upper-level.ensures.upper
     (mul_by_halves k v c.requires.a_good.1.allowed) (λ l x y. product_covers_operands k v.letters l x y) c.in_err-parts.ensures.parts)
 
-pub mul-mul_at-requires-after_bounds : goal.mul-mul_at-requires-after_bounds
-mul-mul_at-requires-after_bounds g t c = λ lives bounds.
+pub mul_anew-mul_at-requires-after_bounds : goal.mul_anew-mul_at-requires-after_bounds
+mul_anew-mul_at-requires-after_bounds g t c = λ lives bounds.
     let k = g.K.Kind.NAME in
     let v = c.args.self.now in
     let a = plain g.K.Kind.extra_of c.args.a in
     let b = plain g.K.Kind.extra_of c.args.b in
     let parts = plain_parts g.K.Kind.extra_of c.in_ok-parts.parts in
     let level = c.upper-level.result in
-    let ends = c.levels.ensures.count ∙ ap (λ (w : View). length w.letters) c.upper-level.ensures.unchanged in
+    let have : HaveNode k v a b = record { first = c.requires.a_good; second = c.requires.b_good; some = c.requires.some_node } in
     let here = subst (λ (w : View). ArePartsOfBoth k w level a b (Ok parts)) c.upper-level.ensures.unchanged c.in_ok-parts.ensures.parts in
     subst (λ (w : View). LieBelow k w level parts) (sym (c.in_ok-parts.ensures.unchanged ∙ c.upper-level.ensures.unchanged))
     (parts_lie_below k v level a b parts
-    (can_part_first k v a b level c.levels.result c.requires.a_good c.upper-level.ensures.upper ends c.if-level-levels.false)
-    (can_part_second k v a b level c.levels.result c.requires.a_good c.requires.b_good c.upper-level.ensures.upper ends c.if-level-levels.false) here)
+    (can_part_first k v a b level have c.upper-level.ensures.upper)
+    (can_part_second k v a b level have c.upper-level.ensures.upper) here)
 
-pub mul-returns-clause-product : goal.mul-returns-clause-product
-mul-returns-clause-product g t c =
+pub mul_anew-returns-clause-product : goal.mul_anew-returns-clause-product
+mul_anew-returns-clause-product g t c =
     let k = g.K.Kind.NAME in
     let v = c.args.self.now in
     let a = plain g.K.Kind.extra_of c.args.a in
@@ -399,7 +432,7 @@ davio_high-mul-requires g t c = λ lives bounds.
     let b = plain g.K.Kind.extra_of c.args.parts.high.1 in
     let keeps = c.in_ok-mixed.ensures.keeps in
     let falls = falls_below k v w c.args.level 2 a b c.requires.parts.within c.requires.parts.first_high c.requires.parts.second_high keeps in
-    (subst (λ (n : ℕ). 8 * (length w.letters - min (top_of w a.node) (top_of w b.node)) + 5 < n) c.decreases falls, (bounds.0, (bounds.1.0, (bounds.1.1, (search rules, (search rules, (search rules, (search rules, (still_edge k v w a keeps c.requires.parts.first_high.good, still_edge k v w b keeps c.requires.parts.second_high.good)))))))))
+    (subst (λ (n : ℕ). 8 * (length w.letters - min (top_of w a.node) (top_of w b.node)) + 6 < n) c.decreases falls, (bounds.0, (bounds.1.0, (bounds.1.1, (search rules, (search rules, (search rules, (search rules, (still_edge k v w a keeps c.requires.parts.first_high.good, still_edge k v w b keeps c.requires.parts.second_high.good)))))))))
 
 pub mixed_products-mul-requires-2 : goal.mixed_products-mul-requires-2
 mixed_products-mul-requires-2 g t c = λ lives bounds.
@@ -410,7 +443,7 @@ mixed_products-mul-requires-2 g t c = λ lives bounds.
     let b = plain g.K.Kind.extra_of c.args.parts.low.1 in
     let keeps = c.in_ok-first.ensures.keeps in
     let falls = falls_below k v w c.args.level 1 a b c.requires.parts.within c.requires.parts.first_high c.requires.parts.second_low keeps in
-    (subst (λ (n : ℕ). 8 * (length w.letters - min (top_of w a.node) (top_of w b.node)) + 5 < n) c.decreases falls, (bounds.0, (bounds.1.0, (bounds.1.1, (search rules, (search rules, (search rules, (search rules, (still_edge k v w a keeps c.requires.parts.first_high.good, still_edge k v w b keeps c.requires.parts.second_low.good)))))))))
+    (subst (λ (n : ℕ). 8 * (length w.letters - min (top_of w a.node) (top_of w b.node)) + 6 < n) c.decreases falls, (bounds.0, (bounds.1.0, (bounds.1.1, (search rules, (search rules, (search rules, (search rules, (still_edge k v w a keeps c.requires.parts.first_high.good, still_edge k v w b keeps c.requires.parts.second_low.good)))))))))
 
 pub shannon_product-mul-requires-2 : goal.shannon_product-mul-requires-2
 shannon_product-mul-requires-2 g t c = λ lives bounds.
@@ -421,4 +454,4 @@ shannon_product-mul-requires-2 g t c = λ lives bounds.
     let b = plain g.K.Kind.extra_of c.args.parts.high.1 in
     let keeps = c.in_ok-low.ensures.keeps in
     let falls = falls_below k v w c.args.level 1 a b c.requires.parts.within c.requires.parts.first_high c.requires.parts.second_high keeps in
-    (subst (λ (n : ℕ). 8 * (length w.letters - min (top_of w a.node) (top_of w b.node)) + 5 < n) c.decreases falls, (bounds.0, (bounds.1.0, (bounds.1.1, (search rules, (search rules, (search rules, (search rules, (still_edge k v w a keeps c.requires.parts.first_high.good, still_edge k v w b keeps c.requires.parts.second_high.good)))))))))
+    (subst (λ (n : ℕ). 8 * (length w.letters - min (top_of w a.node) (top_of w b.node)) + 6 < n) c.decreases falls, (bounds.0, (bounds.1.0, (bounds.1.1, (search rules, (search rules, (search rules, (search rules, (still_edge k v w a keeps c.requires.parts.first_high.good, still_edge k v w b keeps c.requires.parts.second_high.good)))))))))

@@ -4,7 +4,10 @@ use Rattle.builder.proofs.builder.Builder.+product.Given as goal
 
 -- how many levels are left at the upper node of the two, and below a level; then how many calls at the level
 abbrev pub decreases-mul : goal.decreases-mul
-decreases-mul g l = 8 * (length l.self.now.letters - min (top_of l.self.now l.a.node) (top_of l.self.now l.b.node)) + 5
+decreases-mul g l = 8 * (length l.self.now.letters - min (top_of l.self.now l.a.node) (top_of l.self.now l.b.node)) + 6
+
+abbrev pub decreases-mul_anew : goal.decreases-mul_anew
+decreases-mul_anew g l = 8 * (length l.self.now.letters - min (top_of l.self.now l.a.node) (top_of l.self.now l.b.node)) + 5
 
 abbrev pub decreases-mul_at : goal.decreases-mul_at
 decreases-mul_at g l = 8 * (length l.self.now.letters - l.level) + 4
