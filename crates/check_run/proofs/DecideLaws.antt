@@ -177,9 +177,9 @@ not_built_decided X k cells c s place check v w count error r is empty letters r
 
     by_error : (e : BuildError) → Causes k v w (building_work c s check) (limit_met {X = X} (Err e)) → IfOk (verdict_of_limit e) (λ x. IsReported k cells c s place x)
     by_error build.Overflow causes =
-        limit_decided {X = Unit {0}} k c s place check v w count (building_work c s check) limit.Overflow is letters room solo within (made (Err limit.Overflow) causes) causes.cause
+        limit_decided {X = Unit {0}} k cells c s place check v w count (building_work c s check) limit.Overflow is letters room solo within (made (Err limit.Overflow) causes) causes.cause
     by_error build.Full causes =
-        limit_decided {X = Unit {0}} k c s place check v w count (building_work c s check) limit.Full is letters room solo within (made (Err limit.Full) causes) causes.cause
+        limit_decided {X = Unit {0}} k cells c s place check v w count (building_work c s check) limit.Full is letters room solo within (made (Err limit.Full) causes) causes.cause
     by_error build.Memory causes = tt
 
 -- ---- the walk to the first difference

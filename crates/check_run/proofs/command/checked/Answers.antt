@@ -9,4 +9,4 @@ pub verdict_lines-requires : goal.verdict_lines-requires
 verdict_lines-requires c =
     subst (All (λ net. net < net_count c.args.netlist.now)) (sym c.order.ensures.order)
     (All-weaker (λ net. net < input_count c.args.netlist.now) (λ net. net < net_count c.args.netlist.now) (λ net low. omega (arith, low)) c.args.spec.now.order
-    (all_inputs c.args.netlist.now c.args.spec.now c.requires.over c.order.ensures.well_formed))
+    (all_inputs c.args.netlist.now c.args.spec.now c.requires.read_for.over c.order.ensures.well_formed))

@@ -1,7 +1,9 @@
-use Rattle.std.proofs.Common.{◌≡◌, subst, arith}
+use Rattle.std.proofs.Common.{◌≡◌, ◌∙◌, List, ap, subst, arith}
 use Rattle.checks.specs.Sides.{side}
 use Rattle.cone_builder.proofs.NetLaws.{check_there}
 use Rattle.kinds.specs.Plain.{plain}
+use Rattle.tables.specs.Canonical.{node_count}
+use Rattle.word_base.specs.declared.decomp.Decomp.{Decomp}
 use Rattle.record_store.specs.Solo.{IsSoloView}
 use Rattle.record_store.specs.StoreView.{StoreView}
 use Rattle.check_run.specs.Deciding.{verdict_of_limit}
@@ -20,10 +22,11 @@ returns-then-same g c =
     let right = plain of c.args.sides.1 in
     let both = sides_at k n s c.args.check found.0 v left right found.1 c.requires.sides in
     equal_decided k v.store.room n s c.args.check found.0 found.1 ((c.same.ensures 0 (side n s found.0.left) (side n s found.0.right) both.0 both.1).0 c.if-same.true)
-    c.count.result (c.count.ensures.count 0 (side n s found.0.left) both.0)
+    c.count.result
+    (c.count.ensures.count 0 (side n s found.0.left) both.0 ∙ ap (λ (ds : List Decomp). node_count k ds (side n s found.0.left)) c.requires.built.letters)
 
-pub count-requires : goal.count-requires
-count-requires g c κs within =
+pub count-requires-after_bounds : goal.count-requires-after_bounds
+count-requires-after_bounds g c κs within =
     let k = g.K.Kind.NAME in
     let of = g.K.Kind.extra_of in
     let n = c.args.netlist.now in
