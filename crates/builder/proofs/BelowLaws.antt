@@ -22,9 +22,10 @@ use Rattle.kinds.specs.Plain.{PlainEdge}
 use Rattle.kinds.specs.declared.fields.Fields.{Fields}
 use Rattle.kinds.proofs.BodyLaws.{body_of-tells}
 use Rattle.kinds.proofs.GraphLaws.{same_shape_of_id, same_id_of_shape, leaf_of_zero}
-use Rattle.builder.specs.Below.{IsCount, Descends, IsStart, IsNumbered, IsClosed, AreMarked, MarksNodes}
+use Rattle.builder.specs.Below.{Descends, IsStart, IsNumbered, IsClosed, AreMarked, MarksNodes}
 use Rattle.result_cache.specs.Cache.{Places}
 use Rattle.builder.specs.Inside.{IsSound}
+use Rattle.builder.specs.Totals.{IsCount}
 use Rattle.builder.specs.View.{View, StandsAt, IsEdge}
 use Rattle.builder.proofs.NodeLists.{from_level, added_closed, known_adds_none}
 

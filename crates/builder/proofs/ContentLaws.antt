@@ -1,8 +1,8 @@
 -- The content of a table, and the contents of the nodes of its diagram.
-use Rattle.std.proofs.Common.{◌≡◌, refl, sym, ◌∙◌, ap, subst, ℕ, suc, ◌+◌, ℤ, pos, List, [], ◌∷◌, Bool, true, false, length, inl, inr}
-use Rattle.std.specs.Prelude.{◌⊎◌, if◌then◌else◌, unsigned_abs, ◌-ℤ◌}
+use Rattle.std.proofs.Common.{◌≡◌, refl, sym, ◌∙◌, ap, ℕ, ◌+◌, ℤ, pos, List, [], ◌∷◌, true, length, inl, inr}
+use Rattle.std.specs.Prelude.{unsigned_abs}
 use Rattle.std.proofs.lemmas.Bool.{or_cases}
-use Rattle.integers.specs.Gcd.{gcd, gcd3, signed_gcd}
+use Rattle.integers.specs.Gcd.{gcd, signed_gcd}
 use Rattle.integers.proofs.GcdLaws.{gcd-zero_left, gcd-zero_right, gcd_self, gcd_comm, gcd_assoc, gcd_exchange, gcd-sub}
 use Rattle.integers.proofs.SignedGcd.{unsigned_abs-signed_gcd}
 use Rattle.word_base.specs.declared.decomp.Decomp.{Decomp}
@@ -11,16 +11,14 @@ use Rattle.word_base.specs.declared.kind_name.KindName.{KindName}
 use Rattle.word_base.specs.declared.kind_name.KindName.TheVariants.{Evbdd, StarBmd, Hdd, KStarBmd}
 use Rattle.tables.specs.Fits.{content}
 use Rattle.tables.specs.Table.{Table, entry, halves, IsOver, part0, part1}
-use Rattle.tables.specs.Tree.{Weights, Shape, leaf, node, Tree, constant, same_shape, skips, node_join, tjoin, k_star_bmd_rest}
+use Rattle.tables.specs.Tree.{Weights, Shape, leaf, node, Tree, constant, same_shape, skips, node_join, k_star_bmd_rest}
 use Rattle.tables.specs.Canonical.{canonical, has, add_nodes}
 use Rattle.tables.specs.Laws.{are_allowed, IsSkip}
 use Rattle.tables.proofs.CanonicalLaws.{rule_of, allowed_below, parts_joinable}
 use Rattle.tables.proofs.FitsLaws.{content_of_parts}
 use Rattle.tables.proofs.TableLaws.{IsOver-part0, IsOver-part1}
 use Rattle.tables.proofs.TreeLaws.{chosen, same_shape-same}
-use Rattle.kinds.specs.Body.{low_weights, high_weights}
-use Rattle.kinds.specs.Content.{content_of_edge, content_of_fields}
-use Rattle.kinds.specs.declared.fields.Fields.{Fields}
+use Rattle.kinds.specs.Content.{content_of_edge}
 use Rattle.builder.specs.Contents.{content_of_node, content_of_top, contents}
 
 -- ---- the nodes of a shape

@@ -1,6 +1,6 @@
 -- What a walk over a store gathers.
-use Rattle.std.proofs.Common.{◌≡◌, refl, sym, ◌∙◌, ap, subst, ℕ, ℤ, pos, List, [], Bool, length, drop}
-use Rattle.std.specs.Prelude.{Some, None, unsigned_abs}
+use Rattle.std.proofs.Common.{◌≡◌, refl, sym, ◌∙◌, ap, subst, ℕ, ℤ, pos, List, [], Bool, drop}
+use Rattle.std.specs.Prelude.{unsigned_abs}
 use Rattle.std.proofs.lemmas.Option.{same_Some}
 use Rattle.integers.specs.Gcd.{gcd}
 use Rattle.integers.proofs.GcdLaws.{gcd-zero_left, gcd-zero_right, gcd_comm, gcd_assoc}
@@ -8,8 +8,6 @@ use Rattle.word_base.specs.declared.kind_name.KindName.{KindName}
 use Rattle.word_base.specs.declared.kind_name.KindName.TheVariants.{Evbdd, StarBmd, Hdd, KStarBmd}
 use Rattle.marks.specs.Marked.{none_of}
 use Rattle.record_store.specs.StoreView.{find_in}
-use Rattle.tables.specs.Fits.{content}
-use Rattle.tables.specs.Table.{Table}
 use Rattle.tables.specs.Tree.{Weights, Shape, leaf, node}
 use Rattle.tables.specs.Canonical.{canonical, add_nodes}
 use Rattle.kinds.specs.Body.{low_weights, high_weights}
@@ -18,8 +16,8 @@ use Rattle.kinds.specs.Graph.{Lookup, HasShape}
 use Rattle.kinds.specs.Plain.{PlainEdge}
 use Rattle.kinds.specs.declared.fields.Fields.{Fields}
 use Rattle.kinds.proofs.BodyLaws.{body_of-tells}
-use Rattle.builder.specs.Below.{AreMarked, MarksNodes}
-use Rattle.builder.specs.Contents.{IsContent, GathersContents, content_of_node, contents}
+use Rattle.builder.specs.Contents.{GathersContents, content_of_node, contents}
+use Rattle.builder.specs.Totals.{IsContent}
 use Rattle.builder.specs.View.{View, StandsAt}
 use Rattle.builder.proofs.BelowLaws.{AddsNone, AreBothWalked, child_shapes, cleared}
 use Rattle.builder.proofs.ContentLaws.{content_below, node_added, contents_added, content_of_canonical}

@@ -1,19 +1,10 @@
--- Which nodes a walk has marked.
-use Rattle.std.specs.Prelude.{◌≡◌, ℕ, ◌+◌, ◌<◌, ◌≤◌, List, Bool, true, Some, None, length, drop}
+-- Which nodes a walk has marked. Private functions and proofs alone use this.
+use Rattle.std.specs.Prelude.{◌≡◌, ℕ, ◌+◌, ◌<◌, ◌≤◌, List, Bool, true, Some, None, length}
 use Rattle.word_base.specs.declared.kind_name.KindName.{KindName}
 use Rattle.marks.specs.Marked.{is_marked, marked_count}
-use Rattle.tables.specs.Table.{Table}
 use Rattle.tables.specs.Tree.{Shape, leaf, node}
-use Rattle.tables.specs.Canonical.{IsNodeOf, has, add_nodes, nodes}
+use Rattle.tables.specs.Canonical.{IsNodeOf, has, add_nodes}
 use Rattle.kinds.specs.Graph.{Lookup, HasShape}
-use Rattle.kinds.specs.Plain.{PlainEdge}
-use Rattle.builder.specs.View.{View, StandsAt}
-
--- the number is that of the different nodes of the table that the edge stands for
-abbrev pub IsCount : KindName → View → PlainEdge → ℕ → Type 0
-IsCount k v e n = (l : ℕ) (t : Table) → StandsAt k v l t e → n ≡ length (nodes k (drop l v.letters) l t)
-
--- ---- walks
 
 -- each node's level is at least this one, and above those of the nodes below it
 abbrev pub Descends : ℕ → Shape → Type 0

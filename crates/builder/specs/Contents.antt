@@ -1,22 +1,12 @@
--- The contents of the nodes that a walk gathers.
+-- The contents of the nodes that a walk gathers. Private functions and proofs alone use this.
 use Rattle.std.specs.Prelude.{◌≡◌, ℕ, ℤ, pos, negsuc, List, [], ◌∷◌, Bool, unsigned_abs, refl}
 use Rattle.integers.specs.Gcd.{gcd}
 use Rattle.word_base.specs.declared.kind_name.KindName.{KindName}
 use Rattle.word_base.specs.declared.kind_name.KindName.TheVariants.{Evbdd, StarBmd, Hdd, KStarBmd}
-use Rattle.tables.specs.Fits.{content}
-use Rattle.tables.specs.Table.{Table}
 use Rattle.tables.specs.Tree.{Weights, weights, Shape, leaf, node}
 use Rattle.tables.specs.Canonical.{add_nodes}
 use Rattle.kinds.specs.Graph.{Lookup, HasShape}
-use Rattle.kinds.specs.Plain.{PlainEdge}
 use Rattle.builder.specs.Below.{AreMarked}
-use Rattle.builder.specs.View.{View, StandsAt}
-
--- the weight is the content of the table that the edge stands for
-abbrev pub IsContent : KindName → View → PlainEdge → ℤ → Type 0
-IsContent k v e w = (l : ℕ) (t : Table) → StandsAt k v l t e → w ≡ pos (content t)
-
--- ---- walks
 
 -- the content of a node's two edges
 abbrev pub content_of_node : KindName → Weights → Weights → ℕ
@@ -42,5 +32,15 @@ GathersContents k find id marks before after =
     before ≡ pos (gcd n (contents k found)) → after ≡ pos (gcd n (contents k (add_nodes s found)))
 
 -- ---- examples
-contents-of_two : contents Hdd (node 0 (weights (pos 6) (pos 0)) leaf (weights (negsuc 3) (pos 0)) leaf ∷ node 1 (weights (pos 0) (pos 0)) leaf (weights (pos 10) (pos 0)) leaf ∷ []) ≡ 2
+abbrev of_constants : ℤ → ℤ → Shape
+of_constants low high = node 0 (weights low (pos 0)) leaf (weights high (pos 0)) leaf
+
+contents-of_two : contents Hdd (of_constants (pos 6) (negsuc 3) ∷ of_constants (pos 0) (pos 10) ∷ []) ≡ 2
 contents-of_two = refl
+
+-- in an EVBDD by what is added at the high edge, in a *BMD by no weight of a node
+content-of_nodes : content_of_node Evbdd (weights (pos 0) (pos 0)) (weights (negsuc 3) (pos 0)) ≡ 4
+content-of_nodes = refl
+
+content-of_none : content_of_node StarBmd (weights (pos 2) (pos 0)) (weights (pos 4) (pos 0)) ≡ 0
+content-of_none = refl

@@ -6,4 +6,5 @@ pub mod Contents
 pub mod Inside
 pub mod Products
 pub mod Remembered
+pub mod Totals
 pub mod View

@@ -3,7 +3,8 @@ ghost use Rattle.kinds.specs.Plain.{plain};
 ghost use Rattle.record_store.specs.StoreView.{find_in};
 ghost use Rattle.tables.specs.Tree.{Shape};
 ghost use Rattle.builder.specs.Below.{IsStart, IsNumbered, AreMarked, MarksNodes};
-ghost use Rattle.builder.specs.Contents.{IsContent, GathersContents};
+ghost use Rattle.builder.specs.Contents.{GathersContents};
+ghost use Rattle.builder.specs.Totals.{IsContent};
 ghost use Rattle.builder.specs.View.{IsEdge};
 
 use crate::builder::Builder;

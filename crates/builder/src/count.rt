@@ -1,6 +1,6 @@
 ghost use Rattle.std.specs.Prelude.{◌≡◌};
 ghost use Rattle.kinds.specs.Plain.{plain};
-ghost use Rattle.builder.specs.Below.{IsCount};
+ghost use Rattle.builder.specs.Totals.{IsCount};
 ghost use Rattle.builder.specs.View.{IsEdge};
 
 use crate::below::mark_below;

@@ -1,4 +1,4 @@
-use Rattle.std.proofs.Common.{rules, ◌≡◌, sym, subst, ◌∙◌, ℕ, ℤ, ◌<◌, ◌≤◌, length, List, Bool}
+use Rattle.std.proofs.Common.{rules, sym, subst, ◌∙◌, ℕ, ◌<◌, length}
 use Rattle.std.proofs.lemmas.Option.{same_Some}
 use Rattle.kinds.specs.Body.{body_of}
 use Rattle.record_store.specs.StoreView.{StoreView, find_in}

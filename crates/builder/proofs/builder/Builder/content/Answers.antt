@@ -1,7 +1,6 @@
-use Rattle.std.proofs.Common.{sym, subst, ◌∙◌, length, []}
+use Rattle.std.proofs.Common.{length, []}
 use Rattle.record_store.specs.StoreView.{find_in}
 use Rattle.kinds.specs.Plain.{plain}
-use Rattle.builder.specs.View.{View, IsEdge}
 use Rattle.builder.proofs.BelowLaws.{started, cleared}
 use Rattle.builder.proofs.GatherLaws.{gathered}
 use Rattle.builder.proofs.builder.Builder.content.Goals as goal
