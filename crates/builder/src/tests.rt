@@ -135,10 +135,16 @@ fn terms_with_one_meaning_have_one_edge(rt: HostRuntime) -> Result<(), Fail> {
     for letter in [Decomp::S, Decomp::P, Decomp::N] {
         let letters = [letter, letter];
         check_terms(&rt, &mut two_levels::<Hdd>(rt.alloc(), &letters, 100, 0)?)?;
-        check_terms(&rt, &mut two_levels::<KStarBmd>(rt.alloc(), &letters, 100, 1)?)?;
+        check_terms(
+            &rt,
+            &mut two_levels::<KStarBmd>(rt.alloc(), &letters, 100, 1)?,
+        )?;
     }
     check_terms(&rt, &mut two_levels::<Evbdd>(rt.alloc(), &SHANNON, 100, 2)?)?;
-    check_terms(&rt, &mut two_levels::<StarBmd>(rt.alloc(), &POSITIVE, 100, 8)?)
+    check_terms(
+        &rt,
+        &mut two_levels::<StarBmd>(rt.alloc(), &POSITIVE, 100, 8)?,
+    )
 }
 
 fn check_causes<K: Kind>(rt: &impl Abort, builder: &mut Builder<K, SoloStore>) -> Result<(), Fail> {
@@ -160,8 +166,14 @@ fn check_causes<K: Kind>(rt: &impl Abort, builder: &mut Builder<K, SoloStore>) -
 fn a_store_of_one_node_is_full(rt: HostRuntime) -> Result<(), Fail> {
     check_causes(&rt, &mut two_levels::<Hdd>(rt.alloc(), &NEGATIVE, 1, 0)?)?;
     check_causes(&rt, &mut two_levels::<Evbdd>(rt.alloc(), &SHANNON, 1, 1)?)?;
-    check_causes(&rt, &mut two_levels::<StarBmd>(rt.alloc(), &POSITIVE, 1, 2)?)?;
-    check_causes(&rt, &mut two_levels::<KStarBmd>(rt.alloc(), &SHANNON, 1, 8)?)
+    check_causes(
+        &rt,
+        &mut two_levels::<StarBmd>(rt.alloc(), &POSITIVE, 1, 2)?,
+    )?;
+    check_causes(
+        &rt,
+        &mut two_levels::<KStarBmd>(rt.alloc(), &SHANNON, 1, 8)?,
+    )
 }
 
 /// The parts of an edge at a level that is not below its node.
@@ -449,7 +461,10 @@ fn halves_of_halves_are_values(rt: HostRuntime) -> Result<(), Fail> {
             )?;
         }
     }
-    check_halves(&rt, &mut two_levels::<Evbdd>(rt.alloc(), &SHANNON, 1000, 8)?)?;
+    check_halves(
+        &rt,
+        &mut two_levels::<Evbdd>(rt.alloc(), &SHANNON, 1000, 8)?,
+    )?;
     check_halves(
         &rt,
         &mut two_levels::<StarBmd>(rt.alloc(), &POSITIVE, 1000, 0)?,

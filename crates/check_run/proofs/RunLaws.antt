@@ -162,7 +162,7 @@ accepted_report words old new opts c s text status takes (inr (j, d, t, verdicts
     let spec = taken_specification words old new opts c s t takes (subst (λ (x : Circuit). IsTaken words old new opts x t) circuit of_kind) in (
       verdicts,
       subst (λ (x : Specification). AreReported opts.kind opts.cells c x verdicts) spec
-      (subst (λ (x : Circuit). AreReported opts.kind opts.cells x t verdicts) circuit (subst (λ (i : Settings). AreReported i.kind i.cells d t verdicts) kind reported)),
+          (subst (λ (x : Circuit). AreReported opts.kind opts.cells x t verdicts) circuit (subst (λ (i : Settings). AreReported i.kind i.cells d t verdicts) kind reported)),
       subst (λ (x : Specification). IsReport c x verdicts text status) spec (subst (λ (x : Circuit). IsReport x t verdicts text status) circuit report),
     )
 

@@ -125,7 +125,9 @@ fn decide_by<K: Kind>(
     let _inputs = netlist.inputs();
     let levels = levels_of(alloc, spec)?;
     let store = SoloStore::create(alloc, cells)?;
-    let mut builder = match Builder::<K, SoloStore>::create(alloc, store, levels, cells, CACHE_LOG) {
+    let mut builder = match Builder::<K, SoloStore>::create(
+        alloc, store, levels, cells, CACHE_LOG,
+    ) {
         Ok(builder) => builder,
         Err(_) => return Err(AllocError),
     };

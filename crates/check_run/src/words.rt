@@ -34,11 +34,13 @@ pub(crate) fn names_in<'a>(words: &[&'a str]) -> Result<Names<'a>, Refusal>
     match command_of(words) {
         None => Err(Refusal::Usage),
         Some(Command::Gen { .. }) => Err(Refusal::Words),
-        Some(Command::Check {
-            settings,
-            netlist,
-            spec,
-        }) => {
+        Some(
+            Command::Check {
+                settings,
+                netlist,
+                spec,
+            },
+        ) => {
             if !is_built(settings) {
                 return Err(Refusal::Words);
             }

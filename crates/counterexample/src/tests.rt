@@ -262,11 +262,7 @@ fn check_rows<K: Kind>(
     check(rt, alloc, builder, 3, &[ONE], &[], &[])
 }
 
-fn check_rows_at<K: Kind>(
-    rt: &impl Abort,
-    alloc: Global,
-    letters: &[Decomp; 3],
-) -> Result<(), Fail>
+fn check_rows_at<K: Kind>(rt: &impl Abort, alloc: Global, letters: &[Decomp; 3]) -> Result<(), Fail>
     requires { are_allowed K.NAME letters.now ≡ true }
 {
     let mut builder = three_levels::<K>(alloc, letters, 1000)?;

@@ -16,14 +16,14 @@ const C17_SPEC: &str = "word g = 22\nword p = 10\nword q = 16\ncheck g == 1 - p*
 
 const NOR_SPEC: &str = "word a = a\nword b = b\nword z = z\ncheck z == (1 - a)*(1 - b)\n";
 
-const NOR_SUM_SPEC: &str =
-    "word a = a\nword b = b\nword z = z\ncheck z + a + b == 1 + a*b\n";
+const NOR_SUM_SPEC: &str = "word a = a\nword b = b\nword z = z\ncheck z + a + b == 1 + a*b\n";
 
 const PRODUCT: &str = "INPUT(a0)\nINPUT(a1)\nINPUT(b0)\nINPUT(b1)\n";
 
 const PRODUCT_SPEC: &str = "word a = a0 a1\nword b = b0 b1\ncheck a*b == b*a\n";
 
-const SIXTEEN: &str = "INPUT(a0)\nINPUT(a1)\nINPUT(a2)\nINPUT(a3)\nINPUT(a4)\nINPUT(a5)\nINPUT(a6)\nINPUT(a7)\nINPUT(a8)\nINPUT(a9)\nINPUT(a10)\nINPUT(a11)\nINPUT(a12)\nINPUT(a13)\nINPUT(a14)\nINPUT(a15)\nINPUT(b0)\nINPUT(b1)\nINPUT(b2)\nINPUT(b3)\nINPUT(b4)\nINPUT(b5)\nINPUT(b6)\nINPUT(b7)\nINPUT(b8)\nINPUT(b9)\nINPUT(b10)\nINPUT(b11)\nINPUT(b12)\nINPUT(b13)\nINPUT(b14)\nINPUT(b15)\n";
+const SIXTEEN: &str =
+    "INPUT(a0)\nINPUT(a1)\nINPUT(a2)\nINPUT(a3)\nINPUT(a4)\nINPUT(a5)\nINPUT(a6)\nINPUT(a7)\nINPUT(a8)\nINPUT(a9)\nINPUT(a10)\nINPUT(a11)\nINPUT(a12)\nINPUT(a13)\nINPUT(a14)\nINPUT(a15)\nINPUT(b0)\nINPUT(b1)\nINPUT(b2)\nINPUT(b3)\nINPUT(b4)\nINPUT(b5)\nINPUT(b6)\nINPUT(b7)\nINPUT(b8)\nINPUT(b9)\nINPUT(b10)\nINPUT(b11)\nINPUT(b12)\nINPUT(b13)\nINPUT(b14)\nINPUT(b15)\n";
 
 const SIXTEEN_SPEC: &str =
     "word a = a0 a1 a2 a3 a4 a5 a6 a7 a8 a9 a10 a11 a12 a13 a14 a15\nword b = b0 b1 b2 b3 b4 b5 b6 b7 b8 b9 b10 b11 b12 b13 b14 b15\ncheck a*b == a*b\n";

@@ -6,7 +6,8 @@ const INVERTER: &str = "INPUT(a)\ny = NOT(a)\n";
 const OF_INVERTER: &str = "word y = y\nword a = a\n";
 
 /// `examples/language.spec`, over `FULL`.
-const LANGUAGE: &str = "order c a b\nsplit N a b\nword a = a\nword b = b\nword c = c\nword sum = s o        # two bits: the sum, and twice the carry\nword twice=s s        # no space is needed around =\n\n# Checks: two expressions over numbers and words of earlier lines.\ncheck sum == a + b + c\ncheck a - b - c == a - (b + c)\ncheck -a*b == 0 - a*b\ncheck 2*(a + b) == a - -a + b - -b\ncheck twice == 3*(sum - 2*(a*b + b*c + c*a) + 4*a*b*c)\n";
+const LANGUAGE: &str =
+    "order c a b\nsplit N a b\nword a = a\nword b = b\nword c = c\nword sum = s o        # two bits: the sum, and twice the carry\nword twice=s s        # no space is needed around =\n\n# Checks: two expressions over numbers and words of earlier lines.\ncheck sum == a + b + c\ncheck a - b - c == a - (b + c)\ncheck -a*b == 0 - a*b\ncheck 2*(a + b) == a - -a + b - -b\ncheck twice == 3*(sum - 2*(a*b + b*c + c*a) + 4*a*b*c)\n";
 
 const FIVE_EQUAL: &str =
     "check 1 equal nodes 3\ncheck 2 equal nodes 3\ncheck 3 equal nodes 3\ncheck 4 equal nodes 2\ncheck 5 equal nodes 6\n";
@@ -99,7 +100,8 @@ fn each_check_is_decided(rt: HostRuntime) -> Result<(), Fail> {
     let two_lines = "check 1 equal nodes 2\ncheck 2 different left 0 right 1 at a=0 b=1\n";
     let answer = of_lines(rt.alloc(), HALF, HALF_SPEC, first_two, two_lines)?;
     assert_eq!(rt; answer, (1, true), "two checks");
-    let all = "check a == b\ncheck 170141183460469231731687303715884105727 + 1 == 0\ncheck 1 == 1\n";
+    let all =
+        "check a == b\ncheck 170141183460469231731687303715884105727 + 1 == 0\ncheck 1 == 1\n";
     let four_lines =
         "check 1 equal nodes 2\ncheck 2 different left 0 right 1 at a=0 b=1\ncheck 3 overflow\ncheck 4 equal nodes 0\n";
     let answer = of_lines(rt.alloc(), HALF, HALF_SPEC, all, four_lines)?;

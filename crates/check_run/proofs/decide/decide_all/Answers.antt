@@ -16,7 +16,7 @@ loop-check-preserved c =
     let reported = subst (λ (n : ℕ). IsReported c.args.settings.kind c.args.settings.cells c.args.netlist.now c.args.spec.now n verdict) (sym many) c.in_ok-decide.ensures in (
       ap length pushed ∙ length-append before (verdict ∷ []) ∙ ap (λ (n : ℕ). n + 1) many,
       subst (ReportedSoFar c.args.settings.kind c.args.settings.cells c.args.netlist.now c.args.spec.now) (sym pushed)
-      (reported-more c.args.settings.kind c.args.settings.cells c.args.netlist.now c.args.spec.now before verdict c.loop-check.invariant.1 reported),
+          (reported-more c.args.settings.kind c.args.settings.cells c.args.netlist.now c.args.spec.now before verdict c.loop-check.invariant.1 reported),
     )
 
 pub returns : goal.returns
