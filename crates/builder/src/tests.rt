@@ -516,27 +516,27 @@ fn check_counts<K: Kind>(
 fn shared_nodes_count_once(rt: HostRuntime) -> Result<(), Fail> {
     check_counts(
         &rt,
-        &mut two_levels::<Hdd>(rt.alloc(), Decomp::S, 100)?,
+        &mut two_levels::<Hdd>(rt.alloc(), &SHANNON, 100, 3)?,
         [3, 2, 3],
     )?;
     check_counts(
         &rt,
-        &mut two_levels::<Hdd>(rt.alloc(), Decomp::P, 100)?,
+        &mut two_levels::<Hdd>(rt.alloc(), &POSITIVE, 100, 0)?,
         [2, 2, 3],
     )?;
     check_counts(
         &rt,
-        &mut two_levels::<Evbdd>(rt.alloc(), Decomp::S, 100)?,
+        &mut two_levels::<Evbdd>(rt.alloc(), &SHANNON, 100, 3)?,
         [2, 2, 3],
     )?;
     check_counts(
         &rt,
-        &mut two_levels::<StarBmd>(rt.alloc(), Decomp::P, 100)?,
+        &mut two_levels::<StarBmd>(rt.alloc(), &POSITIVE, 100, 0)?,
         [2, 2, 3],
     )?;
     check_counts(
         &rt,
-        &mut two_levels::<KStarBmd>(rt.alloc(), Decomp::S, 100)?,
+        &mut two_levels::<KStarBmd>(rt.alloc(), &SHANNON, 100, 3)?,
         [2, 2, 2],
     )
 }
@@ -579,9 +579,16 @@ fn check_contents<K: Kind>(
 #[test]
 fn contents_of_terms(rt: HostRuntime) -> Result<(), Fail> {
     for letter in [Decomp::S, Decomp::P, Decomp::N] {
-        check_contents(&rt, &mut two_levels::<Hdd>(rt.alloc(), letter, 100)?)?;
-        check_contents(&rt, &mut two_levels::<KStarBmd>(rt.alloc(), letter, 100)?)?;
+        let letters = [letter, letter];
+        check_contents(&rt, &mut two_levels::<Hdd>(rt.alloc(), &letters, 100, 0)?)?;
+        check_contents(
+            &rt,
+            &mut two_levels::<KStarBmd>(rt.alloc(), &letters, 100, 3)?,
+        )?;
     }
-    check_contents(&rt, &mut two_levels::<Evbdd>(rt.alloc(), Decomp::S, 100)?)?;
-    check_contents(&rt, &mut two_levels::<StarBmd>(rt.alloc(), Decomp::P, 100)?)
+    check_contents(&rt, &mut two_levels::<Evbdd>(rt.alloc(), &SHANNON, 100, 0)?)?;
+    check_contents(
+        &rt,
+        &mut two_levels::<StarBmd>(rt.alloc(), &POSITIVE, 100, 3)?,
+    )
 }
