@@ -12,7 +12,7 @@ const FULL_SPEC: &str =
 const C17: &str =
     "# ISCAS-85 c17\nINPUT(1)\nINPUT(2)\nINPUT(3)\nINPUT(6)\nINPUT(7)\nOUTPUT(22)\nOUTPUT(23)\n10 = NAND(1, 3)\n11 = NAND(3, 6)\n16 = NAND(2, 11)\n19 = NAND(11, 7)\n22 = NAND(10, 16)\n23 = NAND(16, 19)\n";
 
-const C17_SPEC: &str = "word g = 22\nword p = 10\nword q = 16\ncheck g + p*q == 1\n";
+const C17_SPEC: &str = "word g = 22\nword p = 10\nword q = 16\ncheck g == 1 - p*q\n";
 
 /// A command line of these arguments.
 #[derive(Drop)]
