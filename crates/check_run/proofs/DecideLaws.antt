@@ -10,7 +10,7 @@ use Rattle.word_base.specs.declared.kind_name.KindName.{KindName}
 use Rattle.word_base.specs.Range.{InRange}
 use Rattle.circuits.specs.Circuit.{Circuit}
 use Rattle.circuits.proofs.Members.{Contains-nil}
-use Rattle.builder.proofs.StoreLaws.{keeps_itself}
+use Rattle.diagram.proofs.StoreLaws.{keeps_itself}
 use Rattle.spec_lang.specs.declared.eval_error.EvalError.{EvalError}
 use Rattle.spec_lang.specs.declared.eval_error.EvalError.TheVariants as eval
 use Rattle.spec_lang.specs.Evaluated.{IsEvaluated}
@@ -31,14 +31,14 @@ use Rattle.checks.specs.declared.method.Method.TheVariants.{Forward}
 use Rattle.checks.specs.Sides.{side}
 use Rattle.checks.proofs.FirstDifference.{first_difference_found, same_table-same}
 use Rattle.checks.proofs.FormulaTables.{sides_are_over}
-use Rattle.kinds.specs.Plain.{PlainEdge}
-use Rattle.kinds.proofs.GraphLaws.{HasShape-extends}
+use Rattle.kind_laws.specs.Plain.{PlainEdge}
+use Rattle.kind_laws.proofs.GraphLaws.{HasShape-extends}
 use Rattle.record_store.specs.Solo.{IsSoloView}
 use Rattle.record_store.specs.StoreView.{find_in}
-use Rattle.builder.specs.Answers.{Causes, HasCause, HasNodeShape}
-use Rattle.builder.specs.View.{View, StandsAt, Keeps}
-use Rattle.builder.specs.declared.limit.Limit.{Limit}
-use Rattle.builder.specs.declared.limit.Limit.TheVariants as limit
+use Rattle.diagram.specs.Answers.{Causes, HasCause, HasNodeShape}
+use Rattle.diagram.specs.View.{View, StandsAt, Keeps}
+use Rattle.diagram.specs.declared.limit.Limit.{Limit}
+use Rattle.diagram.specs.declared.limit.Limit.TheVariants as limit
 use Rattle.cone_builder.specs.Causes.{limit_met}
 use Rattle.cone_builder.specs.declared.build_error.BuildError.{BuildError}
 use Rattle.cone_builder.specs.declared.build_error.BuildError.TheVariants as build

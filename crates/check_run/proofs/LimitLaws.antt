@@ -28,12 +28,12 @@ use Rattle.checks.specs.Forward.{forward_work}
 use Rattle.checks.specs.Limits.{need, nodes_of, over, piece_fits, short, values_in_range}
 use Rattle.checks.specs.Sides.{side}
 use Rattle.checks.specs.declared.method.Method.TheVariants.{Forward}
-use Rattle.kinds.specs.Graph.{HasShape, Lookup}
-use Rattle.kinds.proofs.GraphLaws.{same_id_of_shape}
+use Rattle.kind_laws.specs.Graph.{HasShape, Lookup}
+use Rattle.kind_laws.proofs.GraphLaws.{same_id_of_shape}
 use Rattle.record_store.specs.Solo.{IsSoloView}
 use Rattle.record_store.specs.StoreView.{find_in}
-use Rattle.builder.specs.Answers.{HasNodeShape}
-use Rattle.builder.specs.View.{View}
+use Rattle.diagram.specs.Answers.{HasNodeShape}
+use Rattle.diagram.specs.View.{View}
 
 -- ---- over the range
 list_fails : {X : Type 0} (p : X → Bool) (xs : List X) (x : X) → Contains xs x → p x ≡ false → list_all p xs ≡ false

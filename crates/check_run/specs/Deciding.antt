@@ -2,8 +2,8 @@
 use Rattle.std.specs.Prelude.{◌≡◌, ℕ, ℤ, Bool, List, Result, Ok, Err, IfSome, slice_get, alloc_error}
 use Rattle.std.specs.List.{Contains}
 use Rattle.std.specs.declared.alloc.AllocError.{AllocError}
-use Rattle.builder.specs.Answers.{HasNodeShape}
-use Rattle.builder.specs.View.{View}
+use Rattle.diagram.specs.Answers.{HasNodeShape}
+use Rattle.diagram.specs.View.{View}
 use Rattle.checks.specs.Forward.{building_work}
 use Rattle.circuits.specs.Circuit.{Circuit}
 use Rattle.spec_lang.specs.Specification.{Specification}

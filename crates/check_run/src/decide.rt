@@ -1,23 +1,23 @@
 ghost use Rattle.std.specs.Prelude.{◌≡◌, ◌<◌, ◌≤◌, length, true, IfOk};
-ghost use Rattle.builder.specs.View.{View};
+ghost use Rattle.diagram.specs.View.{View};
 ghost use Rattle.check_run.specs.Deciding.{verdict_at, verdict_of_limit, HasBuilt};
 ghost use Rattle.check_run.specs.Verdicts.{AreReported, IsReported};
 ghost use Rattle.cone_builder.specs.Sides.{AreSides};
-ghost use Rattle.kinds.specs.Plain.{plain};
+ghost use Rattle.kind_laws.specs.Plain.{plain};
 ghost use Rattle.settings.specs.Limits.{AreWithin};
 ghost use Rattle.settings.specs.declared.limits.TheConstants.{MOST_CELLS};
 ghost use Rattle.spec_grammar.specs.ReadFor.{IsReadFor};
 ghost use Rattle.spec_lang.specs.WellFormed.{IsOver};
 ghost use Rattle.tables.specs.Laws.{are_allowed};
 
-use builder::Builder;
 use checks::Verdict;
 use cone_builder::{BuildError, build_one};
 use counterexample::first_difference;
+use diagram::Builder;
 use evbdd::Evbdd;
 use hdd::Hdd;
 use k_star_bmd::KStarBmd;
-use kinds::{Edge, Kind};
+use kind_laws::{Edge, Kind};
 use netlist::Netlist;
 use record_store::SoloStore;
 use settings::Settings;

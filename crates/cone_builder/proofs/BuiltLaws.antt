@@ -6,10 +6,10 @@ use Rattle.std.proofs.lemmas.Bool.{cases_Bool}
 use Rattle.std.proofs.lemmas.List.{get_or_default, get_or-set_same, get_or-set_other, length-set, take_more, map-append}
 use Rattle.circuits.proofs.Members.{Contains-cons, Contains-head}
 use Rattle.tables.specs.Table.{Table}
-use Rattle.kinds.specs.Plain.{PlainEdge, plain, plain_edge}
-use Rattle.kinds.specs.declared.kind.Edge.{Edge}
-use Rattle.builder.specs.View.{View, StandsAt, IsEdge, Keeps}
-use Rattle.builder.proofs.LevelLaws.{stays}
+use Rattle.kind_laws.specs.Plain.{PlainEdge, plain, plain_edge}
+use Rattle.kind_laws.specs.declared.kind.Edge.{Edge}
+use Rattle.diagram.specs.View.{View, StandsAt, IsEdge, Keeps}
+use Rattle.diagram.proofs.LevelLaws.{stays}
 use Rattle.word_apply.specs.Applied.{AreEdges, AllStand, plain_edges}
 use Rattle.word_apply.proofs.EdgeLists.{still_edges}
 use Rattle.cone_builder.specs.Built.{AreBuilt, or_listed}

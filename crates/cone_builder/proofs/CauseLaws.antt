@@ -13,12 +13,12 @@ use Rattle.word_base.specs.declared.kind_name.KindName.{KindName}
 use Rattle.tables.specs.Pieces.{Piece, pieces}
 use Rattle.tables.proofs.PieceLaws.{covers_contained, covers_itself}
 use Rattle.checks.specs.Work.{gate_work, gate_table, word_table, word_work}
-use Rattle.kinds.specs.Plain.{PlainEdge}
-use Rattle.builder.specs.declared.limit.Limit.{Limit}
-use Rattle.builder.specs.declared.limit.Limit.TheVariants as limit
-use Rattle.builder.specs.Answers.{Causes}
-use Rattle.builder.specs.View.{View, Keeps}
-use Rattle.builder.proofs.CallLaws.{ran_nothing, causes_of, causes_then}
+use Rattle.kind_laws.specs.Plain.{PlainEdge}
+use Rattle.diagram.specs.declared.limit.Limit.{Limit}
+use Rattle.diagram.specs.declared.limit.Limit.TheVariants as limit
+use Rattle.diagram.specs.Answers.{Causes}
+use Rattle.diagram.specs.View.{View, Keeps}
+use Rattle.diagram.proofs.CallLaws.{ran_nothing, causes_of, causes_then}
 use Rattle.word_apply.specs.Applied.{IsOfAll, gate_work_at}
 use Rattle.cone_builder.specs.declared.build_error.BuildError.{BuildError}
 use Rattle.cone_builder.specs.declared.build_error.BuildError.TheVariants as error

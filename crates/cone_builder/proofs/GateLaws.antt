@@ -11,14 +11,14 @@ use Rattle.circuits.specs.declared.gate_word.GateWord.TheVariants.{And, Nand, Or
 use Rattle.circuits.proofs.Gates.{gate-sized, some_inputs}
 use Rattle.tables.specs.Table.{Table}
 use Rattle.checks.specs.Work.{gate_table}
-use Rattle.kinds.specs.Plain.{PlainEdge}
-use Rattle.builder.specs.View.{View, StandsAt, Keeps}
-use Rattle.builder.proofs.LevelLaws.{good_at}
-use Rattle.builder.proofs.StoreLaws.{keeps_itself, keeps_on}
+use Rattle.kind_laws.specs.Plain.{PlainEdge}
+use Rattle.diagram.specs.View.{View, StandsAt, Keeps}
+use Rattle.diagram.proofs.LevelLaws.{good_at}
+use Rattle.diagram.proofs.StoreLaws.{keeps_itself, keeps_on}
 use Rattle.std.specs.Prelude.{Ok}
 use Rattle.tables.specs.Pieces.{Piece}
-use Rattle.builder.specs.Answers.{Causes}
-use Rattle.builder.proofs.CallLaws.{ran_nothing, ran_causes}
+use Rattle.diagram.specs.Answers.{Causes}
+use Rattle.diagram.proofs.CallLaws.{ran_nothing, ran_causes}
 use Rattle.checks.specs.Forward.{net_work}
 use Rattle.cone_builder.specs.Causes.{Includes}
 use Rattle.word_apply.specs.Applied.{AreEdges, IsOfAll, gate_work_at}

@@ -7,14 +7,14 @@ use Rattle.circuits.specs.Order.{is_among}
 use Rattle.circuits.specs.Valuation.{bit_of}
 use Rattle.std.specs.Prelude.{Ok}
 use Rattle.tables.specs.Pieces.{Piece, pieces}
-use Rattle.builder.specs.Answers.{Causes}
-use Rattle.builder.proofs.CallLaws.{ran_nothing, ran_causes}
+use Rattle.diagram.specs.Answers.{Causes}
+use Rattle.diagram.proofs.CallLaws.{ran_nothing, ran_causes}
 use Rattle.cone_builder.specs.Causes.{Includes}
-use Rattle.kinds.specs.Plain.{PlainEdge}
+use Rattle.kind_laws.specs.Plain.{PlainEdge}
 use Rattle.tables.specs.Table.{Table, variable_table}
 use Rattle.word_base.specs.declared.decomp.Decomp.{Decomp}
-use Rattle.builder.specs.View.{View, StandsAt, IsEdge, Keeps}
-use Rattle.builder.proofs.StoreLaws.{keeps_itself, keeps_on}
+use Rattle.diagram.specs.View.{View, StandsAt, IsEdge, Keeps}
+use Rattle.diagram.proofs.StoreLaws.{keeps_itself, keeps_on}
 use Rattle.word_apply.specs.Applied.{AreEdges}
 use Rattle.cone_builder.specs.Built.{AreBuilt, AreVariables, is_marked, or_listed}
 use Rattle.cone_builder.proofs.BuiltLaws.{none_built, one_more_built, fewer_built}

@@ -27,8 +27,8 @@ use Rattle.checks.specs.Sides.{net_table}
 use Rattle.checks.specs.Work.{gate_table}
 use Rattle.checks.proofs.GateTables.{gate_tables}
 use Rattle.checks.proofs.InputTables.{input_tables}
-use Rattle.builder.specs.View.{View}
-use Rattle.kinds.specs.Plain.{PlainEdge}
+use Rattle.diagram.specs.View.{View}
+use Rattle.kind_laws.specs.Plain.{PlainEdge}
 use Rattle.word_apply.specs.Applied.{AreEdges}
 use Rattle.cone_builder.specs.Built.{AreBuilt, AreGates, AreVariables, ComeAfter, NetsAreBuilt, is_marked, or_listed}
 use Rattle.cone_builder.proofs.BuiltLaws.{fewer_built}

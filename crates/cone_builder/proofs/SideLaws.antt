@@ -20,11 +20,11 @@ use Rattle.checks.specs.FormulaWork.{formula_work}
 use Rattle.checks.specs.Sides.{net_table, side}
 use Rattle.checks.proofs.FormulaTables.{formula_tables}
 use Rattle.checks.proofs.WordTables.{word_tables}
-use Rattle.kinds.specs.Plain.{PlainEdge}
-use Rattle.kinds.proofs.GraphLaws.{same_table_of_edge}
-use Rattle.builder.specs.declared.limit.Limit.{Limit}
-use Rattle.builder.specs.Answers.{Answers}
-use Rattle.builder.specs.View.{View, StandsAt}
+use Rattle.kind_laws.specs.Plain.{PlainEdge}
+use Rattle.kind_laws.proofs.GraphLaws.{same_table_of_edge}
+use Rattle.diagram.specs.declared.limit.Limit.{Limit}
+use Rattle.diagram.specs.Answers.{Answers}
+use Rattle.diagram.specs.View.{View, StandsAt}
 use Rattle.record_store.specs.StoreView.{find_in}
 use Rattle.word_apply.specs.Applied.{AllStand, AreEdges, IsOfAll, formula_table, formula_at, formula_work_at}
 use Rattle.cone_builder.specs.Built.{AreBuilt, AreWords, NetsAreBuilt, or_listed}

@@ -9,13 +9,13 @@ use Rattle.std.specs.Prelude.{Ok}
 use Rattle.std.proofs.lemmas.List.Elements.{Contains-get_or}
 use Rattle.tables.specs.Pieces.{Piece}
 use Rattle.checks.specs.Work.{word_table, word_work}
-use Rattle.builder.specs.Answers.{Causes}
-use Rattle.builder.proofs.CallLaws.{ran_nothing, ran_causes}
+use Rattle.diagram.specs.Answers.{Causes}
+use Rattle.diagram.proofs.CallLaws.{ran_nothing, ran_causes}
 use Rattle.cone_builder.specs.Causes.{Includes}
-use Rattle.kinds.specs.Plain.{PlainEdge}
-use Rattle.builder.specs.View.{View, StandsAt, Keeps}
-use Rattle.builder.proofs.LevelLaws.{good_at}
-use Rattle.builder.proofs.StoreLaws.{keeps_itself, keeps_on}
+use Rattle.kind_laws.specs.Plain.{PlainEdge}
+use Rattle.diagram.specs.View.{View, StandsAt, Keeps}
+use Rattle.diagram.proofs.LevelLaws.{good_at}
+use Rattle.diagram.proofs.StoreLaws.{keeps_itself, keeps_on}
 use Rattle.word_apply.specs.Applied.{AreEdges, IsOfAll}
 use Rattle.cone_builder.specs.Built.{AreBuilt, AreWords, or_listed}
 use Rattle.cone_builder.proofs.BuiltLaws.{still_built, one_more_built, fewer_built, gathered_stand}

@@ -23,11 +23,11 @@ use Rattle.checks.specs.Forward.{building_work, cone_work, input_work, net_work,
 use Rattle.checks.specs.FormulaWork.{formula_work}
 use Rattle.checks.specs.Sides.{net_table, side}
 use Rattle.checks.specs.Work.{word_work}
-use Rattle.kinds.specs.Plain.{PlainEdge}
-use Rattle.builder.specs.declared.limit.Limit.{Limit}
-use Rattle.builder.specs.Answers.{Causes}
-use Rattle.builder.specs.View.{View, Keeps}
-use Rattle.builder.proofs.CallLaws.{causes_of}
+use Rattle.kind_laws.specs.Plain.{PlainEdge}
+use Rattle.diagram.specs.declared.limit.Limit.{Limit}
+use Rattle.diagram.specs.Answers.{Causes}
+use Rattle.diagram.specs.View.{View, Keeps}
+use Rattle.diagram.proofs.CallLaws.{causes_of}
 use Rattle.word_apply.specs.Applied.{IsOfAll, formula_at, formula_work_at}
 use Rattle.cone_builder.specs.Built.{AreBuilt, AreGates, AreVariables, ComeAfter, NetsAreBuilt, is_marked, or_listed}
 use Rattle.cone_builder.specs.Causes.{Includes}

@@ -10,8 +10,8 @@ use Rattle.spec_lang.specs.Value.{nets_of}
 use Rattle.checks.specs.Sides.{net_table}
 use Rattle.checks.specs.Work.{gate_table, word_table}
 use Rattle.tables.specs.Table.{Table, variable_table}
-use Rattle.kinds.specs.Plain.{PlainEdge}
-use Rattle.builder.specs.View.{View, StandsAt}
+use Rattle.kind_laws.specs.Plain.{PlainEdge}
+use Rattle.diagram.specs.View.{View, StandsAt}
 use Rattle.word_apply.specs.Applied.{AreEdges}
 
 -- all edges are good, and those at the built places stand for the tables of their places

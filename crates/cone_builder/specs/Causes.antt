@@ -2,8 +2,8 @@
 use Rattle.std.specs.Prelude.{◌≡◌, ℕ, List, ◌++◌, Result, Ok, Err, Contains, refl}
 use Rattle.std.proofs.lemmas.List.Elements.{Contains-append_right}
 use Rattle.tables.specs.Pieces.{Piece}
-use Rattle.builder.specs.declared.limit.Limit.{Limit}
-use Rattle.builder.specs.declared.limit.Limit.TheVariants as limit
+use Rattle.diagram.specs.declared.limit.Limit.{Limit}
+use Rattle.diagram.specs.declared.limit.Limit.TheVariants as limit
 use Rattle.cone_builder.specs.declared.build_error.BuildError.{BuildError}
 use Rattle.cone_builder.specs.declared.build_error.BuildError.TheVariants as error
 

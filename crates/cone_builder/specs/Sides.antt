@@ -3,11 +3,11 @@ use Rattle.std.specs.Prelude.{◌≡◌, IfSome, List, codes, slice_get, ℕ, re
 use Rattle.circuits.specs.Circuit.{Circuit}
 use Rattle.spec_lang.specs.Specification.{Specification}
 use Rattle.checks.specs.Sides.{side}
-use Rattle.kinds.specs.Plain.{PlainEdge}
+use Rattle.kind_laws.specs.Plain.{PlainEdge}
 use Rattle.word_base.specs.declared.kind_name.KindName.{KindName}
-use Rattle.builder.specs.View.{View, StandsAt}
-use Rattle.builder.specs.declared.limit.Limit.{Limit}
-use Rattle.builder.specs.declared.limit.Limit.TheVariants as limit
+use Rattle.diagram.specs.View.{View, StandsAt}
+use Rattle.diagram.specs.declared.limit.Limit.{Limit}
+use Rattle.diagram.specs.declared.limit.Limit.TheVariants as limit
 use Rattle.cone_builder.specs.declared.build_error.BuildError.{BuildError}
 use Rattle.cone_builder.specs.declared.build_error.BuildError.TheVariants as error
 

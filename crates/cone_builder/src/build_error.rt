@@ -1,6 +1,6 @@
 ghost use Rattle.std.specs.Prelude.{◌≡◌};
 
-use builder::Limit;
+use diagram::Limit;
 use std::alloc::AllocError;
 use std::fmt;
 

@@ -3,23 +3,23 @@ ghost use Rattle.checks.specs.Forward.{building_work, cone_work, input_work, net
 ghost use Rattle.cone_builder.specs.Built.{AreBuilt, AreGates, AreVariables, ComeAfter, NetsAreBuilt, is_marked, or_listed};
 ghost use Rattle.cone_builder.specs.Causes.{Includes, limit_met};
 ghost use Rattle.cone_builder.specs.Sides.{AreSides};
-ghost use Rattle.builder.specs.Answers.{Causes};
-ghost use Rattle.builder.specs.View.{View, Keeps};
+ghost use Rattle.diagram.specs.Answers.{Causes};
+ghost use Rattle.diagram.specs.View.{View, Keeps};
 ghost use Rattle.circuits.specs.Circuit.{IsGate, input_count, net_count};
 ghost use Rattle.circuits.specs.Sound.{IsSound};
 ghost use Rattle.spec_lang.specs.Specification.{Check};
 ghost use Rattle.spec_lang.specs.WellFormed.{IsOver};
 ghost use Rattle.tables.specs.Pieces.{Piece, pieces};
 ghost use Rattle.tables.specs.Table.{Table};
-ghost use Rattle.kinds.specs.Plain.{plain};
+ghost use Rattle.kind_laws.specs.Plain.{plain};
 ghost use Rattle.word_apply.specs.Applied.{AreEdges, plain_edges};
 
 use crate::build_error::BuildError;
 use crate::gates::build_gates;
 use crate::inputs::{build_inputs, repeated};
 use crate::words::build_words;
-use builder::Builder;
-use kinds::{Edge, Kind};
+use diagram::Builder;
+use kind_laws::{Edge, Kind};
 use netlist::Netlist;
 use record_store::Store;
 use spec_lang::Spec;

@@ -2,18 +2,18 @@ ghost use Rattle.std.specs.Prelude.{◌≡◌, ℕ, ◌<◌, Bool, List, [], ◌
 ghost use Rattle.cone_builder.specs.Built.{AreBuilt, AreGates, ComeAfter, ReadsBuilt, or_listed};
 ghost use Rattle.checks.specs.Forward.{net_work};
 ghost use Rattle.cone_builder.specs.Causes.{limit_met, Includes};
-ghost use Rattle.builder.specs.Answers.{Causes};
-ghost use Rattle.builder.specs.View.{View, Keeps};
+ghost use Rattle.diagram.specs.Answers.{Causes};
+ghost use Rattle.diagram.specs.View.{View, Keeps};
 ghost use Rattle.circuits.specs.Circuit.{IsGate, net_count};
 ghost use Rattle.circuits.specs.Sound.{IsSound};
 ghost use Rattle.tables.specs.Pieces.{Piece};
 ghost use Rattle.tables.specs.Table.{Table};
-ghost use Rattle.kinds.specs.Plain.{PlainEdge};
+ghost use Rattle.kind_laws.specs.Plain.{PlainEdge};
 ghost use Rattle.word_apply.specs.Applied.{AreEdges, plain_edges};
 
 use crate::build_error::BuildError;
-use builder::Builder;
-use kinds::{Edge, Kind};
+use diagram::Builder;
+use kind_laws::{Edge, Kind};
 use netlist::Netlist;
 use record_store::Store;
 use std::alloc::AllocError;

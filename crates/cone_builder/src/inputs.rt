@@ -1,15 +1,15 @@
 ghost use Rattle.std.specs.Prelude.{◌≡◌, ℕ, ◌<◌, ◌≤◌, ◌^◌, true, List, [], ◌∷◌, length, replicate, All, IfOk, OnOk};
 ghost use Rattle.cone_builder.specs.Built.{AreBuilt, AreVariables, is_marked};
 ghost use Rattle.cone_builder.specs.Causes.{Includes};
-ghost use Rattle.builder.specs.Answers.{Causes};
-ghost use Rattle.builder.specs.View.{View, Keeps};
+ghost use Rattle.diagram.specs.Answers.{Causes};
+ghost use Rattle.diagram.specs.View.{View, Keeps};
 ghost use Rattle.tables.specs.Pieces.{Piece, pieces};
 ghost use Rattle.tables.specs.Table.{Table};
-ghost use Rattle.kinds.specs.Plain.{plain};
+ghost use Rattle.kind_laws.specs.Plain.{plain};
 ghost use Rattle.word_apply.specs.Applied.{AreEdges, plain_edges};
 
-use builder::{Builder, Limit};
-use kinds::{Edge, Kind};
+use diagram::{Builder, Limit};
+use kind_laws::{Edge, Kind};
 use record_store::Store;
 use std::alloc::{AllocError, Global};
 

@@ -2,18 +2,18 @@ ghost use Rattle.std.specs.Prelude.{◌≡◌, ℕ, ◌<◌, Bool, true, List, [
 ghost use Rattle.cone_builder.specs.Built.{AreBuilt, AreWords, or_listed};
 ghost use Rattle.checks.specs.Work.{word_work};
 ghost use Rattle.cone_builder.specs.Causes.{limit_met, Includes};
-ghost use Rattle.builder.specs.Answers.{Causes};
-ghost use Rattle.builder.specs.View.{View, Keeps};
+ghost use Rattle.diagram.specs.Answers.{Causes};
+ghost use Rattle.diagram.specs.View.{View, Keeps};
 ghost use Rattle.spec_lang.specs.Value.{nets_of};
 ghost use Rattle.tables.specs.Pieces.{Piece};
 ghost use Rattle.tables.specs.Table.{Table};
-ghost use Rattle.kinds.specs.Plain.{plain};
+ghost use Rattle.kind_laws.specs.Plain.{plain};
 ghost use Rattle.word_apply.specs.Applied.{AreEdges, plain_edges};
 
 use crate::build_error::BuildError;
 use crate::gates::gather;
-use builder::Builder;
-use kinds::{Edge, Kind};
+use diagram::Builder;
+use kind_laws::{Edge, Kind};
 use record_store::Store;
 use spec_lang::Spec;
 use word_apply::word;

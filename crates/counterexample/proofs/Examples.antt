@@ -11,8 +11,8 @@ use Rattle.tables.specs.Tree.{Weights}
 use Rattle.tables.specs.Canonical.{canonical}
 use Rattle.record_store.specs.Solo.{solo_view}
 use Rattle.record_store.specs.StoreView.{find_in}
-use Rattle.kinds.specs.Plain.{PlainEdge, plain_edge}
-use Rattle.builder.specs.View.{View, StandsAt, top_of}
+use Rattle.kind_laws.specs.Plain.{PlainEdge, plain_edge}
+use Rattle.diagram.specs.View.{View, StandsAt, top_of}
 use Rattle.counterexample.specs.Walk.{LiesFrom, Differ}
 
 abbrev two_levels : View

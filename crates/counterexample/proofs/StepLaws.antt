@@ -12,15 +12,15 @@ use Rattle.tables.specs.Pieces.{add_work}
 use Rattle.tables.proofs.PieceLaws.{HasLetter}
 use Rattle.checks.specs.Work.{tried, other}
 use Rattle.checks.proofs.FirstDifference.{same_table-same, same_table-refl}
-use Rattle.kinds.specs.Plain.{PlainEdge, answered}
-use Rattle.builder.specs.Answers.{Answers}
-use Rattle.builder.specs.Calls.{CanPart, ArePartsOf, IsOfBoth}
-use Rattle.builder.specs.View.{View, letter_at, StandsAt, IsEdge, Keeps}
-use Rattle.builder.specs.declared.limit.Limit.{Limit}
-use Rattle.builder.specs.declared.limit.Limit.TheVariants as limit
-use Rattle.builder.proofs.CallLaws.{Ran, ran_nothing, ran_then, answers_then, ran_causes, ran_on, causes_then}
-use Rattle.builder.proofs.EachLaws.{part_lies_below}
-use Rattle.builder.proofs.LevelLaws.{letters_at, has_letter, stays, still_edge, same_top}
+use Rattle.kind_laws.specs.Plain.{PlainEdge, answered}
+use Rattle.diagram.specs.Answers.{Answers}
+use Rattle.diagram.specs.Calls.{CanPart, ArePartsOf, IsOfBoth}
+use Rattle.diagram.specs.View.{View, letter_at, StandsAt, IsEdge, Keeps}
+use Rattle.diagram.specs.declared.limit.Limit.{Limit}
+use Rattle.diagram.specs.declared.limit.Limit.TheVariants as limit
+use Rattle.diagram.proofs.CallLaws.{Ran, ran_nothing, ran_then, answers_then, ran_causes, ran_on, causes_then}
+use Rattle.diagram.proofs.EachLaws.{part_lies_below}
+use Rattle.diagram.proofs.LevelLaws.{letters_at, has_letter, stays, still_edge, same_top}
 use Rattle.counterexample.specs.Steps.{PlainChoice, Offers, choice_work, Chooses, IsChoice, PlainTurn, GoesTo, step_work, IsTurn}
 use Rattle.counterexample.proofs.CoverLaws.{step_covers_left, step_covers_right, choice_covers_table, choice_covers_sum}
 

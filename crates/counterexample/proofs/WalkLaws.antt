@@ -12,14 +12,14 @@ use Rattle.tables.proofs.PieceLaws.{Covers, covers_on, covers_itself}
 use Rattle.checks.specs.Answer.{Difference, first_difference}
 use Rattle.checks.specs.Work.{walk_step, walk_bits, walk}
 use Rattle.checks.proofs.FirstDifference.{first_difference_found, walk_finds_first}
-use Rattle.kinds.specs.Plain.{PlainEdge}
-use Rattle.builder.specs.Answers.{Causes}
-use Rattle.builder.specs.Calls.{CanPart}
-use Rattle.builder.specs.View.{View, letter_at, StandsAt, Keeps}
-use Rattle.builder.specs.declared.limit.Limit.{Limit}
-use Rattle.builder.proofs.CallLaws.{Ran, ran_nothing, ran_causes, ran_on, causes_then}
-use Rattle.builder.proofs.LevelLaws.{letters_at, good_at, from_level, stands_somewhere, top_within}
-use Rattle.builder.proofs.StoreLaws.{keeps_itself, keeps_on}
+use Rattle.kind_laws.specs.Plain.{PlainEdge}
+use Rattle.diagram.specs.Answers.{Causes}
+use Rattle.diagram.specs.Calls.{CanPart}
+use Rattle.diagram.specs.View.{View, letter_at, StandsAt, Keeps}
+use Rattle.diagram.specs.declared.limit.Limit.{Limit}
+use Rattle.diagram.proofs.CallLaws.{Ran, ran_nothing, ran_causes, ran_on, causes_then}
+use Rattle.diagram.proofs.LevelLaws.{letters_at, good_at, from_level, stands_somewhere, top_within}
+use Rattle.diagram.proofs.StoreLaws.{keeps_itself, keeps_on}
 use Rattle.counterexample.specs.Steps.{PlainTurn, step_work, Turns, IsTurn}
 use Rattle.counterexample.specs.Walk.{LiesFrom, Differ, IsFirstAt}
 use Rattle.counterexample.proofs.CoverLaws.{walk_covers_step, walk_covers_rest}

@@ -6,10 +6,10 @@ use Rattle.word_base.specs.declared.kind_name.KindName.{KindName}
 use Rattle.tables.specs.Table.{Table, entry, halves}
 use Rattle.tables.specs.Pieces.{Piece, pieces}
 use Rattle.checks.specs.Work.{tried, other, sums_at, walk_step}
-use Rattle.kinds.specs.Plain.{PlainEdge, plain}
-use Rattle.builder.specs.Answers.{Causes}
-use Rattle.builder.specs.View.{View, letter_at, StandsAt}
-use Rattle.builder.specs.declared.limit.Limit.{Limit}
+use Rattle.kind_laws.specs.Plain.{PlainEdge, plain}
+use Rattle.diagram.specs.Answers.{Causes}
+use Rattle.diagram.specs.View.{View, letter_at, StandsAt}
+use Rattle.diagram.specs.declared.limit.Limit.{Limit}
 use Rattle.counterexample.specs.declared.walk.Choice.{Choice}
 use Rattle.counterexample.specs.declared.walk.Turn.{Turn}
 

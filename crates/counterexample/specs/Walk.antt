@@ -5,8 +5,8 @@ use Rattle.word_base.specs.declared.kind_name.KindName.{KindName}
 use Rattle.tables.specs.Table.{Table, entry, halves, constant_table}
 use Rattle.checks.specs.Answer.{Difference, first_difference}
 use Rattle.checks.specs.Work.{walk_bits}
-use Rattle.kinds.specs.Plain.{PlainEdge}
-use Rattle.builder.specs.View.{View, StandsAt, IsEdge, top_of}
+use Rattle.kind_laws.specs.Plain.{PlainEdge}
+use Rattle.diagram.specs.View.{View, StandsAt, IsEdge, top_of}
 
 -- an edge that has no node above the level
 pub record LiesFrom (k : KindName) (v : View) (level : ℕ) (e : PlainEdge) : Type 0 where

@@ -1,14 +1,14 @@
 ghost use Rattle.std.specs.Prelude.{◌≡◌, ◌<◌, ◌≤◌, IfOk, true};
 ghost use Rattle.tables.specs.Laws.{are_allowed};
-ghost use Rattle.kinds.specs.Plain.{plain};
-ghost use Rattle.builder.specs.View.{IsEdge, Keeps};
+ghost use Rattle.kind_laws.specs.Plain.{plain};
+ghost use Rattle.diagram.specs.View.{IsEdge, Keeps};
 
 use super::*;
-use builder::{Builder, Limit};
+use diagram::{Builder, Limit};
 use evbdd::Evbdd;
 use hdd::Hdd;
 use k_star_bmd::KStarBmd;
-use kinds::{Edge, Kind};
+use kind_laws::{Edge, Kind};
 use record_store::SoloStore;
 use star_bmd::StarBmd;
 use std::alloc::Global;

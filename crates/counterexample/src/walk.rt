@@ -2,15 +2,15 @@ ghost use Rattle.std.specs.Prelude.{◌≡◌, ℕ, ◌+◌, ◌<◌, length, dr
 ghost use Rattle.word_base.specs.declared.decomp.Decomp.{Decomp as letter};
 ghost use Rattle.tables.specs.Table.{Table};
 ghost use Rattle.checks.specs.Work.{walk};
-ghost use Rattle.kinds.specs.Plain.{plain, answered};
-ghost use Rattle.builder.specs.Answers.{Causes};
-ghost use Rattle.builder.specs.Calls.{CanPart};
-ghost use Rattle.builder.specs.View.{View, StandsAt, Keeps};
+ghost use Rattle.kind_laws.specs.Plain.{plain, answered};
+ghost use Rattle.diagram.specs.Answers.{Causes};
+ghost use Rattle.diagram.specs.Calls.{CanPart};
+ghost use Rattle.diagram.specs.View.{View, StandsAt, Keeps};
 ghost use Rattle.counterexample.specs.Steps.{plain_choice, plain_turn, Offers, GoesTo, IsChoice, IsTurn};
 ghost use Rattle.counterexample.specs.Walk.{LiesFrom, Differ, IsFirstAt};
 
-use builder::{Builder, Limit};
-use kinds::{Edge, Kind};
+use diagram::{Builder, Limit};
+use kind_laws::{Edge, Kind};
 use record_store::Store;
 use word_base::{Assign, Decomp};
 

@@ -8,9 +8,9 @@ use Rattle.word_base.specs.declared.decomp.Decomp.{Decomp}
 use Rattle.word_base.specs.declared.kind_name.KindName.TheVariants.{Evbdd}
 use Rattle.tables.specs.Tree.{Shape, node, weights, tree, skips}
 use Rattle.tables.proofs.TreeLaws.{same-eq, same-same}
-use Rattle.kinds.specs.Kind.{AreShapes}
-use Rattle.kinds.specs.Plain.{PlainEdge, plain_edge, over_shape}
-use Rattle.kinds.proofs.ShapeLaws.{same_edges, same_trees}
+use Rattle.kind_laws.specs.Kind.{AreShapes}
+use Rattle.kind_laws.specs.Plain.{PlainEdge, plain_edge, over_shape}
+use Rattle.kind_laws.proofs.ShapeLaws.{same_edges, same_trees}
 
 same_number : (x y : ℤ) → y -ℤ x ≡ pos 0 → x ≡ y
 same_number x y e = omega (arith, ints, e)

@@ -1,5 +1,5 @@
 use super::*;
-use kinds::{Edge, Fields, Joined, Kind, pack_body};
+use kind_laws::{Edge, Fields, Joined, Kind, pack_body};
 use std::marker::PhantomData;
 use std::process::Abort;
 use word_base::{Decomp, Overflow, Weight};

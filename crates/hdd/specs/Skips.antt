@@ -2,7 +2,7 @@
 use Rattle.std.specs.Prelude.{◌≡◌, pos}
 use Rattle.word_base.specs.declared.decomp.Decomp.{Decomp}
 use Rattle.word_base.specs.declared.decomp.Decomp.TheVariants.{S, P, N}
-use Rattle.kinds.specs.Plain.{PlainEdge, plain_edge}
+use Rattle.kind_laws.specs.Plain.{PlainEdge, plain_edge}
 
 abbrev pub IsSkip : Decomp → PlainEdge → PlainEdge → Type 0
 IsSkip S low high = low ≡ high

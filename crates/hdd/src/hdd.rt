@@ -1,15 +1,15 @@
 ghost use Rattle.std.specs.Prelude.{◌≡◌, ◌↔◌, ℤ, pos, IsTrue};
 ghost use Rattle.word_base.specs.Kind.{is_allowed};
 ghost use Rattle.word_base.specs.declared.kind_name.KindName.TheVariants.{Hdd as hdd};
-ghost use Rattle.kinds.specs.Body.{Reads};
-ghost use Rattle.kinds.specs.Content.{content_of_edge, content_of_fields};
-ghost use Rattle.kinds.specs.EdgeWords.{edge_words, FitsEdge, IsEdgeWords, ReadsEdge};
-ghost use Rattle.kinds.specs.Kind.{IsRooted, Joins, IsNodeBody, HasParts};
-ghost use Rattle.kinds.specs.Plain.{plain, plain_edge, no_extra, plain_joined, constant_edge, answered};
-ghost use Rattle.kinds.specs.Scale.{scale_of, unscaled, MayScale, Scales, shift_of, unshifted, MayShift, Shifts};
+ghost use Rattle.kind_laws.specs.Body.{Reads};
+ghost use Rattle.kind_laws.specs.Content.{content_of_edge, content_of_fields};
+ghost use Rattle.kind_laws.specs.EdgeWords.{edge_words, FitsEdge, IsEdgeWords, ReadsEdge};
+ghost use Rattle.kind_laws.specs.Kind.{IsRooted, Joins, IsNodeBody, HasParts};
+ghost use Rattle.kind_laws.specs.Plain.{plain, plain_edge, no_extra, plain_joined, constant_edge, answered};
+ghost use Rattle.kind_laws.specs.Scale.{scale_of, unscaled, MayScale, Scales, shift_of, unshifted, MayShift, Shifts};
 ghost use Rattle.hdd.specs.Skips.{IsSkip};
 
-use kinds::{
+use kind_laws::{
     Edge, Fields, Joined, Kind, children, gcd, high_weight_of, low_weight_of, magnitude, pack_body,
     pack_edge, unpack_edge,
 };
@@ -30,7 +30,7 @@ impl Kind for Hdd {
 
     ghost NAME = { hdd };
 
-    ghost use Rattle.kinds.specs.Plain.{no_extra};
+    ghost use Rattle.kind_laws.specs.Plain.{no_extra};
 
     ghost extra_of = { no_extra };
 

@@ -1,9 +1,9 @@
 ghost use Rattle.word_base.specs.declared.kind_name.KindName.TheVariants.{Hdd as hdd};
-ghost use Rattle.kinds.specs.Kind.{IsRooted};
-ghost use Rattle.kinds.specs.Plain.{plain, no_extra};
+ghost use Rattle.kind_laws.specs.Kind.{IsRooted};
+ghost use Rattle.kind_laws.specs.Plain.{plain, no_extra};
 
 use super::*;
-use kinds::{Edge, Fields, Joined, Kind, pack_body};
+use kind_laws::{Edge, Fields, Joined, Kind, pack_body};
 use std::marker::PhantomData;
 use std::process::Abort;
 use word_base::{Decomp, Overflow, Weight};

@@ -13,9 +13,9 @@ use Rattle.word_base.specs.declared.decomp.Decomp.TheVariants.{S, P, N}
 use Rattle.word_base.specs.declared.kind_name.KindName.TheVariants.{KStarBmd}
 use Rattle.tables.specs.Fits.{difference_in_range}
 use Rattle.tables.specs.Tree.{Shape, Tree, leaf, node, weights, tree, k_star_bmd_rest, k_star_bmd_node, node_join}
-use Rattle.kinds.specs.Kind.{IsRooted}
-use Rattle.kinds.specs.Plain.{PlainEdge, plain_edge, over_shape}
-use Rattle.kinds.proofs.EdgeLaws.{same_numbers}
+use Rattle.kind_laws.specs.Kind.{IsRooted}
+use Rattle.kind_laws.specs.Plain.{PlainEdge, plain_edge, over_shape}
+use Rattle.kind_laws.proofs.EdgeLaws.{same_numbers}
 use Rattle.k_star_bmd.specs.Additive.{rest_of}
 use Rattle.k_star_bmd.specs.Skips.{IsSkip}
 

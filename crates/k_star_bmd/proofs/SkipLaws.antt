@@ -6,9 +6,9 @@ use Rattle.word_base.specs.declared.decomp.Decomp.TheVariants.{S, P, N}
 use Rattle.word_base.specs.declared.kind_name.KindName.TheVariants.{KStarBmd}
 use Rattle.tables.specs.Tree.{Shape, leaf, Tree, constant, same, skips}
 use Rattle.tables.proofs.TreeLaws.{same-refl, same-same}
-use Rattle.kinds.specs.Kind.{AreShapes}
-use Rattle.kinds.specs.Plain.{PlainEdge, over_shape}
-use Rattle.kinds.proofs.ShapeLaws.{same_edges, same_trees, leaf_tree, leaf_edge}
+use Rattle.kind_laws.specs.Kind.{AreShapes}
+use Rattle.kind_laws.specs.Plain.{PlainEdge, over_shape}
+use Rattle.kind_laws.proofs.ShapeLaws.{same_edges, same_trees, leaf_tree, leaf_edge}
 use Rattle.k_star_bmd.specs.Skips.{IsSkip}
 
 same_if_equal : (t u : Tree) → t ≡ u → same t u ≡ true

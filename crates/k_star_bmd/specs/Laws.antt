@@ -6,9 +6,9 @@ use Rattle.word_base.specs.declared.kind_name.KindName.TheVariants.{KStarBmd}
 use Rattle.tables.specs.Tree.{Weights, weights, Shape, leaf, node, Tree}
 use Rattle.tables.specs.Canonical.{IsCanonical}
 use Rattle.tables.specs.Laws.{are_allowed}
-use Rattle.kinds.specs.Body.{low_weights, high_weights}
-use Rattle.kinds.specs.Content.{ContentOfParts}
-use Rattle.kinds.specs.declared.fields.Fields.{Fields}
+use Rattle.kind_laws.specs.Body.{low_weights, high_weights}
+use Rattle.kind_laws.specs.Content.{ContentOfParts}
+use Rattle.kind_laws.specs.declared.fields.Fields.{Fields}
 
 -- The weights of a node's two edges have no common divisor, and the first that is not 0 is positive. That which is added
 -- at the high edge comes last

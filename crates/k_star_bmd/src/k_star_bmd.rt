@@ -2,16 +2,16 @@ ghost use Rattle.std.specs.Prelude.{◌≡◌, ◌↔◌, ℤ, pos, true, IsTrue
 ghost use Rattle.std.specs.Result.{OkIff};
 ghost use Rattle.word_base.specs.Range.{InRange};
 ghost use Rattle.word_base.specs.declared.kind_name.KindName.TheVariants.{KStarBmd as k_star_bmd};
-ghost use Rattle.kinds.specs.Body.{Reads};
-ghost use Rattle.kinds.specs.Content.{content_of_edge, content_of_fields};
-ghost use Rattle.kinds.specs.EdgeWords.{edge_words, FitsEdge, IsEdgeWords, ReadsEdge};
-ghost use Rattle.kinds.specs.Kind.{IsRooted, Joins, IsNodeBody, HasParts};
-ghost use Rattle.kinds.specs.Plain.{plain, plain_edge, plain_joined, constant_edge, answered};
-ghost use Rattle.kinds.specs.Scale.{scale_of, unscaled, scaled_node, Scales, shift_of, unshifted, Shifts};
+ghost use Rattle.kind_laws.specs.Body.{Reads};
+ghost use Rattle.kind_laws.specs.Content.{content_of_edge, content_of_fields};
+ghost use Rattle.kind_laws.specs.EdgeWords.{edge_words, FitsEdge, IsEdgeWords, ReadsEdge};
+ghost use Rattle.kind_laws.specs.Kind.{IsRooted, Joins, IsNodeBody, HasParts};
+ghost use Rattle.kind_laws.specs.Plain.{plain, plain_edge, plain_joined, constant_edge, answered};
+ghost use Rattle.kind_laws.specs.Scale.{scale_of, unscaled, scaled_node, Scales, shift_of, unshifted, Shifts};
 ghost use Rattle.k_star_bmd.specs.Additive.{own_extra, rest_of, high_extra_of};
 ghost use Rattle.k_star_bmd.specs.Skips.{IsSkip};
 
-use kinds::{
+use kind_laws::{
     Edge, Fields, Joined, Kind, added_of, children, high_weight_of, low_weight_of, pack_body,
     pack_edge, unpack_edge,
 };

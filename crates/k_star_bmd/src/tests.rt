@@ -1,11 +1,11 @@
 ghost use Rattle.std.specs.Prelude.{◌≡◌};
 ghost use Rattle.word_base.specs.declared.kind_name.KindName.TheVariants.{KStarBmd as k_star_bmd};
-ghost use Rattle.kinds.specs.Kind.{IsRooted};
-ghost use Rattle.kinds.specs.Plain.{plain};
+ghost use Rattle.kind_laws.specs.Kind.{IsRooted};
+ghost use Rattle.kind_laws.specs.Plain.{plain};
 ghost use Rattle.k_star_bmd.specs.Additive.{own_extra};
 
 use super::*;
-use kinds::{Edge, Fields, Joined, Kind, pack_body};
+use kind_laws::{Edge, Fields, Joined, Kind, pack_body};
 use std::marker::PhantomData;
 use std::process::Abort;
 use word_base::{Decomp, Overflow, Weight};

@@ -1,14 +1,14 @@
 ghost use Rattle.std.specs.Prelude.{◌≡◌, ◌↔◌, ℤ, pos, true, IsTrue};
 ghost use Rattle.word_base.specs.Kind.{is_allowed};
 ghost use Rattle.word_base.specs.declared.kind_name.KindName.TheVariants.{StarBmd as star_bmd};
-ghost use Rattle.kinds.specs.Body.{Reads};
-ghost use Rattle.kinds.specs.Content.{content_of_edge, content_of_fields};
-ghost use Rattle.kinds.specs.EdgeWords.{edge_words, FitsEdge, IsEdgeWords, ReadsEdge};
-ghost use Rattle.kinds.specs.Kind.{IsRooted, Joins, IsNodeBody, HasParts};
-ghost use Rattle.kinds.specs.Plain.{plain, plain_edge, no_extra, plain_joined, constant_edge, answered};
-ghost use Rattle.kinds.specs.Scale.{scale_of, unscaled, scaled_node, Scales, shift_of, unshifted, MayShift, Shifts};
+ghost use Rattle.kind_laws.specs.Body.{Reads};
+ghost use Rattle.kind_laws.specs.Content.{content_of_edge, content_of_fields};
+ghost use Rattle.kind_laws.specs.EdgeWords.{edge_words, FitsEdge, IsEdgeWords, ReadsEdge};
+ghost use Rattle.kind_laws.specs.Kind.{IsRooted, Joins, IsNodeBody, HasParts};
+ghost use Rattle.kind_laws.specs.Plain.{plain, plain_edge, no_extra, plain_joined, constant_edge, answered};
+ghost use Rattle.kind_laws.specs.Scale.{scale_of, unscaled, scaled_node, Scales, shift_of, unshifted, MayShift, Shifts};
 
-use kinds::{
+use kind_laws::{
     Edge, Fields, Joined, Kind, children, high_weight_of, low_weight_of, pack_body, pack_edge,
     unpack_edge,
 };
@@ -27,7 +27,7 @@ impl Kind for StarBmd {
 
     ghost use Rattle.std.specs.Prelude.{◌≡◌, ◌↔◌, pos, refl, true};
     ghost use Rattle.word_base.specs.declared.kind_name.KindName.TheVariants.{StarBmd as star_bmd};
-    ghost use Rattle.kinds.specs.Plain.{no_extra};
+    ghost use Rattle.kind_laws.specs.Plain.{no_extra};
 
     ghost NAME = { star_bmd };
 

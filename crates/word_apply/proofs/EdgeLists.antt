@@ -2,10 +2,10 @@
 use Rattle.std.proofs.Common.{◌≡◌, refl, sym, ◌∙◌, ap, subst, ℕ, zero, suc, ◌-◌, ◌<◌, ◌≤◌, ℤ, List, [], ◌∷◌, ◌++◌, length, map, get_or, take, drop, arith}
 use Rattle.std.specs.Prelude.{slice_index_or}
 use Rattle.std.proofs.lemmas.List.{take_all}
-use Rattle.builder.specs.View.{View, StandsAt, IsEdge, Keeps}
-use Rattle.builder.proofs.LevelLaws.{stays, still_edge}
-use Rattle.kinds.specs.Plain.{PlainEdge, plain}
-use Rattle.kinds.specs.declared.kind.Edge.{Edge}
+use Rattle.diagram.specs.View.{View, StandsAt, IsEdge, Keeps}
+use Rattle.diagram.proofs.LevelLaws.{stays, still_edge}
+use Rattle.kind_laws.specs.Plain.{PlainEdge, plain}
+use Rattle.kind_laws.specs.declared.kind.Edge.{Edge}
 use Rattle.tables.specs.Table.{Table}
 use Rattle.word_base.specs.declared.kind_name.KindName.{KindName}
 use Rattle.word_apply.specs.Applied.{AllStand, AreEdges, plain_edges}

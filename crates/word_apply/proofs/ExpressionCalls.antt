@@ -2,15 +2,15 @@
 use Rattle.std.proofs.Common.{◌≡◌, sym, ◌∙◌, ap, subst, ℕ, ◌<◌, ◌≤◌, ℤ, pos, List, [], ◌++◌, length, drop}
 use Rattle.std.specs.Prelude.{slice_index_or, Result, Ok, Err}
 use Rattle.std.specs.Result.{IsErrAnd}
-use Rattle.builder.specs.Answers.{Answers}
-use Rattle.builder.specs.Calls.{IsOfEach, IsOfBoth}
-use Rattle.builder.specs.View.{View, StandsAt, IsEdge, Keeps}
-use Rattle.builder.specs.declared.limit.Limit.{Limit}
-use Rattle.builder.proofs.CallLaws.{Ran, ran_nothing, ran_then, answers_then, refuses_then}
-use Rattle.builder.proofs.JoinCauses.{answers_at_once, refused}
-use Rattle.builder.proofs.LevelLaws.{stays}
-use Rattle.kinds.specs.Plain.{PlainEdge, plain, answered}
-use Rattle.kinds.specs.declared.kind.Edge.{Edge}
+use Rattle.diagram.specs.Answers.{Answers}
+use Rattle.diagram.specs.Calls.{IsOfEach, IsOfBoth}
+use Rattle.diagram.specs.View.{View, StandsAt, IsEdge, Keeps}
+use Rattle.diagram.specs.declared.limit.Limit.{Limit}
+use Rattle.diagram.proofs.CallLaws.{Ran, ran_nothing, ran_then, answers_then, refuses_then}
+use Rattle.diagram.proofs.JoinCauses.{answers_at_once, refused}
+use Rattle.diagram.proofs.LevelLaws.{stays}
+use Rattle.kind_laws.specs.Plain.{PlainEdge, plain, answered}
+use Rattle.kind_laws.specs.declared.kind.Edge.{Edge}
 use Rattle.spec_lang.specs.Formula.{Formula, number, word, negative, formula_of}
 use Rattle.spec_lang.specs.declared.expr.Expr.{Expr}
 use Rattle.spec_lang.specs.declared.expr.Expr.TheVariants as variant

@@ -2,16 +2,16 @@
 use Rattle.std.proofs.Common.{◌≡◌, sym, subst, ℕ, ◌≤◌, ℤ, List, [], ◌∷◌, ◌++◌, Bool, true, false, length, drop}
 use Rattle.std.specs.Prelude.{Result, Ok, Err, if◌then◌else◌}
 use Rattle.std.specs.Result.{IsErrAnd}
-use Rattle.builder.specs.Answers.{Answers}
-use Rattle.builder.specs.Calls.{IsOfEach, IsOfBoth}
-use Rattle.builder.specs.View.{View, StandsAt, Keeps}
-use Rattle.builder.specs.declared.limit.Limit.{Limit}
-use Rattle.builder.proofs.CallLaws.{Ran, ran_nothing, ran_then, answers_then, refuses_then}
-use Rattle.builder.proofs.JoinCauses.{answers_at_once, refused}
+use Rattle.diagram.specs.Answers.{Answers}
+use Rattle.diagram.specs.Calls.{IsOfEach, IsOfBoth}
+use Rattle.diagram.specs.View.{View, StandsAt, Keeps}
+use Rattle.diagram.specs.declared.limit.Limit.{Limit}
+use Rattle.diagram.proofs.CallLaws.{Ran, ran_nothing, ran_then, answers_then, refuses_then}
+use Rattle.diagram.proofs.JoinCauses.{answers_at_once, refused}
 use Rattle.checks.specs.Work.{step_work, step_table, fold_work, fold_table, not_work, gate_work, gate_table}
 use Rattle.circuits.specs.Polynomial.{step, is_negated, negation}
 use Rattle.circuits.specs.declared.gate_word.GateWord.{GateWord}
-use Rattle.kinds.specs.Plain.{PlainEdge, answered}
+use Rattle.kind_laws.specs.Plain.{PlainEdge, answered}
 use Rattle.tables.specs.Pieces.{Piece}
 use Rattle.tables.specs.Table.{Table, each}
 use Rattle.tables.proofs.PieceLaws.{Covers, covers_left, covers_right}

@@ -2,19 +2,19 @@
 use Rattle.std.proofs.Common.{◌≡◌, sym, subst, ℕ, ℤ, pos, List, length, drop}
 use Rattle.std.specs.Prelude.{Result, Ok, Err}
 use Rattle.std.specs.Result.{IsErrAnd}
-use Rattle.builder.specs.Answers.{Answers}
-use Rattle.builder.specs.Calls.{IsOfEach, IsOfBoth}
-use Rattle.builder.specs.Products.{product_work}
-use Rattle.builder.specs.View.{View, StandsAt, Keeps}
-use Rattle.builder.specs.declared.limit.Limit.{Limit}
-use Rattle.builder.proofs.CallLaws.{Ran, ran_nothing, answers_then}
-use Rattle.builder.proofs.LevelLaws.{stays}
-use Rattle.builder.proofs.PartLaws.{constant_stands}
-use Rattle.builder.proofs.StepLaws.{Step, step_ran, step_refuses, step_answers, each_step, both_step}
+use Rattle.diagram.specs.Answers.{Answers}
+use Rattle.diagram.specs.Calls.{IsOfEach, IsOfBoth}
+use Rattle.diagram.specs.Products.{product_work}
+use Rattle.diagram.specs.View.{View, StandsAt, Keeps}
+use Rattle.diagram.specs.declared.limit.Limit.{Limit}
+use Rattle.diagram.proofs.CallLaws.{Ran, ran_nothing, answers_then}
+use Rattle.diagram.proofs.LevelLaws.{stays}
+use Rattle.diagram.proofs.PartLaws.{constant_stands}
+use Rattle.diagram.proofs.StepLaws.{Step, step_ran, step_refuses, step_answers, each_step, both_step}
 use Rattle.checks.specs.Work.{not_work, step_table}
 use Rattle.circuits.specs.Polynomial.{negation}
 use Rattle.circuits.specs.declared.gate_word.GateWord.TheVariants.{Or, Xor}
-use Rattle.kinds.specs.Plain.{PlainEdge, constant_edge, answered}
+use Rattle.kind_laws.specs.Plain.{PlainEdge, constant_edge, answered}
 use Rattle.tables.specs.Pieces.{Piece, like, add_work, sub_work, scale_work}
 use Rattle.tables.specs.Table.{Table, each, plus, minus, times, multiple, constant_table}
 use Rattle.tables.proofs.PieceLaws.{Covers}

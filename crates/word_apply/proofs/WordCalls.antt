@@ -2,16 +2,16 @@
 use Rattle.std.proofs.Common.{◌≡◌, sym, ap, subst, ℕ, suc, ◌+◌, ◌*◌, ◌^◌, ◌≤◌, ℤ, pos, List, [], ◌∷◌, length, fold, arith}
 use Rattle.std.specs.Prelude.{Result, Ok, Err}
 use Rattle.std.specs.Result.{IsErrAnd}
-use Rattle.builder.specs.Answers.{Answers}
-use Rattle.builder.specs.Calls.{IsOfEach, IsOfBoth}
-use Rattle.builder.specs.View.{View, StandsAt, Keeps}
-use Rattle.builder.specs.declared.limit.Limit.{Limit}
-use Rattle.builder.proofs.CallLaws.{Ran, ran_nothing, answers_then}
-use Rattle.builder.proofs.JoinCauses.{answers_at_once}
-use Rattle.builder.proofs.LevelLaws.{stays}
-use Rattle.builder.proofs.StepLaws.{Step, step_ran, step_refuses, each_step, both_step}
+use Rattle.diagram.specs.Answers.{Answers}
+use Rattle.diagram.specs.Calls.{IsOfEach, IsOfBoth}
+use Rattle.diagram.specs.View.{View, StandsAt, Keeps}
+use Rattle.diagram.specs.declared.limit.Limit.{Limit}
+use Rattle.diagram.proofs.CallLaws.{Ran, ran_nothing, answers_then}
+use Rattle.diagram.proofs.JoinCauses.{answers_at_once}
+use Rattle.diagram.proofs.LevelLaws.{stays}
+use Rattle.diagram.proofs.StepLaws.{Step, step_ran, step_refuses, each_step, both_step}
 use Rattle.checks.specs.Work.{multiples, word_table, word_work}
-use Rattle.kinds.specs.Plain.{PlainEdge, answered}
+use Rattle.kind_laws.specs.Plain.{PlainEdge, answered}
 use Rattle.tables.specs.Pieces.{add_work, scale_work}
 use Rattle.tables.specs.Table.{Table, plus, multiple}
 use Rattle.tables.proofs.TableLaws.{times_one}

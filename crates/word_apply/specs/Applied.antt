@@ -1,14 +1,14 @@
 -- What the calls on gates, words and expressions ask and answer.
 use Rattle.std.specs.Prelude.{◌≡◌, ℕ, ◌≤◌, ◌^◌, ℤ, pos, negsuc, ◌+ℤ◌, ◌-ℤ◌, ◌*ℤ◌, List, [], ◌∷◌, ◌++◌, length, map, drop, slice_index_or, Result, refl}
 use Rattle.std.specs.List.{AllByRecursion}
-use Rattle.builder.specs.Answers.{Answers}
-use Rattle.builder.specs.View.{View, StandsAt, IsEdge}
-use Rattle.builder.specs.declared.limit.Limit.{Limit}
+use Rattle.diagram.specs.Answers.{Answers}
+use Rattle.diagram.specs.View.{View, StandsAt, IsEdge}
+use Rattle.diagram.specs.declared.limit.Limit.{Limit}
 use Rattle.checks.specs.FormulaWork.{formula_work}
 use Rattle.checks.specs.Work.{or_work, xor_work, step_work, fold_work, gate_work, multiples, sums_from}
 use Rattle.circuits.specs.declared.gate_word.GateWord.{GateWord}
-use Rattle.kinds.specs.Plain.{PlainEdge, plain}
-use Rattle.kinds.specs.declared.kind.Edge.{Edge}
+use Rattle.kind_laws.specs.Plain.{PlainEdge, plain}
+use Rattle.kind_laws.specs.declared.kind.Edge.{Edge}
 use Rattle.spec_lang.specs.Formula.{Formula, number, word, negative, sum, difference, product}
 use Rattle.tables.specs.Pieces.{Piece, pieces, add_work, sub_work, mul_work}
 use Rattle.tables.specs.Table.{Table, entry, halves, plus, minus, times, opposite, constant_table}

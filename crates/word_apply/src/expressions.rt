@@ -1,14 +1,14 @@
 ghost use Rattle.std.specs.Prelude.{length};
-ghost use Rattle.builder.specs.Calls.{IsOfBoth};
-ghost use Rattle.builder.specs.View.{View, IsEdge, Keeps};
-ghost use Rattle.kinds.specs.Plain.{plain, answered};
+ghost use Rattle.diagram.specs.Calls.{IsOfBoth};
+ghost use Rattle.diagram.specs.View.{View, IsEdge, Keeps};
+ghost use Rattle.kind_laws.specs.Plain.{plain, answered};
 ghost use Rattle.spec_lang.specs.Formula.{formula_of};
 ghost use Rattle.spec_lang.specs.WellFormed.{NamesBelow};
 ghost use Rattle.tables.specs.Table.{zip_with};
 ghost use Rattle.word_apply.specs.Applied.{plain_edges, AreEdges, IsOfAll, formula_at, formula_work_at, operation_of, operation_work};
 
-use builder::{Builder, Limit};
-use kinds::{Edge, Kind};
+use diagram::{Builder, Limit};
+use kind_laws::{Edge, Kind};
 use record_store::Store;
 use spec_lang::Expr;
 

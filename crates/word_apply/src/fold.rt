@@ -1,15 +1,15 @@
 ghost use Rattle.std.specs.Prelude.{◌≡◌, ◌<◌, length};
 ghost use Rattle.checks.specs.Work.{step_table, fold_table, gate_table};
 ghost use Rattle.circuits.specs.Polynomial.{is_negated};
-ghost use Rattle.builder.specs.Calls.{IsOfBoth};
-ghost use Rattle.builder.specs.View.{View, IsEdge, Keeps};
-ghost use Rattle.kinds.specs.Plain.{plain, answered};
+ghost use Rattle.diagram.specs.Calls.{IsOfBoth};
+ghost use Rattle.diagram.specs.View.{View, IsEdge, Keeps};
+ghost use Rattle.kind_laws.specs.Plain.{plain, answered};
 ghost use Rattle.word_apply.specs.Applied.{plain_edges, AreEdges, IsOfAll, IsOfRest, step_work_at, fold_work_at, gate_work_at};
 
 use crate::gates::{and, not, or, xor};
-use builder::{Builder, Limit};
 use circuits::GateWord;
-use kinds::{Edge, Kind};
+use diagram::{Builder, Limit};
+use kind_laws::{Edge, Kind};
 use record_store::Store;
 
 /// One step of a gate's fold, before the negation. NOT and BUFF take none.

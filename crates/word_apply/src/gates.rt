@@ -2,14 +2,14 @@ ghost use Rattle.tables.specs.Table.{each};
 ghost use Rattle.checks.specs.Work.{not_work, step_table};
 ghost use Rattle.circuits.specs.Polynomial.{negation};
 ghost use Rattle.circuits.specs.declared.gate_word.GateWord.TheVariants.{And, Or, Xor};
-ghost use Rattle.builder.specs.Calls.{IsOfBoth, IsOfEach};
-ghost use Rattle.builder.specs.Products.{product_work};
-ghost use Rattle.builder.specs.View.{View, IsEdge, Keeps};
-ghost use Rattle.kinds.specs.Plain.{plain, answered};
+ghost use Rattle.diagram.specs.Calls.{IsOfBoth, IsOfEach};
+ghost use Rattle.diagram.specs.Products.{product_work};
+ghost use Rattle.diagram.specs.View.{View, IsEdge, Keeps};
+ghost use Rattle.kind_laws.specs.Plain.{plain, answered};
 ghost use Rattle.word_apply.specs.Applied.{or_work_at, xor_work_at};
 
-use builder::{Builder, Limit};
-use kinds::{Edge, Kind};
+use diagram::{Builder, Limit};
+use kind_laws::{Edge, Kind};
 use record_store::Store;
 use word_base::Weight;
 

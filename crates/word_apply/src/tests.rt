@@ -1,17 +1,17 @@
 ghost use Rattle.std.specs.Prelude.{◌≡◌, IfOk, length, true};
-ghost use Rattle.builder.specs.View.{Keeps};
-ghost use Rattle.kinds.specs.Plain.{plain};
+ghost use Rattle.diagram.specs.View.{Keeps};
+ghost use Rattle.kind_laws.specs.Plain.{plain};
 ghost use Rattle.spec_lang.specs.Formula.{formula_of};
 ghost use Rattle.spec_lang.specs.WellFormed.{NamesBelow};
 ghost use Rattle.word_apply.specs.Applied.{AreEdges, plain_edges};
 ghost use Rattle.word_base.specs.Kind.{is_allowed};
 
 use super::*;
-use builder::{Builder, Limit};
 use circuits::GateWord;
+use diagram::{Builder, Limit};
 use evbdd::Evbdd;
 use hdd::Hdd;
-use kinds::{Edge, Kind};
+use kind_laws::{Edge, Kind};
 use record_store::SoloStore;
 use spec_lang::Expr;
 use std::alloc::Global;

@@ -1,12 +1,12 @@
 ghost use Rattle.std.specs.Prelude.{◌≡◌, ◌+◌, ◌<◌, ◌≤◌, ◌^◌, pos, fold, length};
-ghost use Rattle.builder.specs.View.{View, IsEdge, Keeps};
+ghost use Rattle.diagram.specs.View.{View, IsEdge, Keeps};
 ghost use Rattle.checks.specs.Work.{multiples, word_table, word_work};
-ghost use Rattle.kinds.specs.Plain.{plain, answered};
+ghost use Rattle.kind_laws.specs.Plain.{plain, answered};
 ghost use Rattle.tables.specs.Table.{plus};
 ghost use Rattle.word_apply.specs.Applied.{plain_edges, AreEdges, IsOfAll, IsOfRest, sum_work};
 
-use builder::{Builder, Limit};
-use kinds::{Edge, Kind};
+use diagram::{Builder, Limit};
+use kind_laws::{Edge, Kind};
 use record_store::Store;
 use word_base::Weight;
 

@@ -1,7 +1,7 @@
 use Rattle.std.proofs.Common.{◌≡◌, ◌∙◌, List, ap, subst, arith}
 use Rattle.checks.specs.Sides.{side}
 use Rattle.cone_builder.proofs.NetLaws.{check_there}
-use Rattle.kinds.specs.Plain.{plain}
+use Rattle.kind_laws.specs.Plain.{plain}
 use Rattle.tables.specs.Canonical.{node_count}
 use Rattle.word_base.specs.declared.decomp.Decomp.{Decomp}
 use Rattle.record_store.specs.Solo.{IsSoloView}

@@ -1,8 +1,8 @@
-use Rattle.kinds.specs.declared.kind.Edge.{Edge}
+use Rattle.kind_laws.specs.declared.kind.Edge.{Edge}
 use Rattle.std.proofs.Common.{◌≡◌, ap, subst, ◌∙◌, [], length}
 use Rattle.std.specs.Prelude.{Ok, slice_get}
-use Rattle.builder.specs.Answers.{Causes, HasNodeShape}
-use Rattle.builder.specs.View.{View}
+use Rattle.diagram.specs.Answers.{Causes, HasNodeShape}
+use Rattle.diagram.specs.View.{View}
 use Rattle.checks.specs.Forward.{building_work}
 use Rattle.cone_builder.proofs.NetLaws.{check_there, if_some_at, if_some_from}
 use Rattle.record_store.specs.Solo.{Solo, solo_view, IsSoloView}

@@ -1,7 +1,7 @@
 use Rattle.std.proofs.Common.{sym, subst, List}
 use Rattle.std.proofs.lemmas.Result.{on_ok_weaker}
 use Rattle.word_base.specs.declared.decomp.Decomp.{Decomp}
-use Rattle.builder.proofs.StoreLaws.{keeps_on}
+use Rattle.diagram.proofs.StoreLaws.{keeps_on}
 use Rattle.cone_builder.specs.Built.{is_marked}
 use Rattle.checks.specs.Forward.{net_work}
 use Rattle.cone_builder.specs.Causes.{Includes, limit_met}

@@ -5,7 +5,7 @@ use Rattle.circuits.specs.Circuit.{input_count, net_count}
 use Rattle.circuits.specs.Cone.{cone, is_in_cone}
 use Rattle.circuits.specs.Valuation.{bit_of}
 use Rattle.spec_lang.specs.Named.{nets_named}
-use Rattle.kinds.specs.Plain.{plain}
+use Rattle.kind_laws.specs.Plain.{plain}
 use Rattle.word_apply.specs.Applied.{AreEdges, plain_edges}
 use Rattle.cone_builder.specs.Built.{AreBuilt, AreVariables, ComeAfter, NetsAreBuilt, is_marked, or_listed}
 use Rattle.cone_builder.specs.Causes.{limit_met}

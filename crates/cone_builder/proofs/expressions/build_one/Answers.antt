@@ -6,12 +6,12 @@ use Rattle.spec_lang.specs.Named.{words_of_check}
 use Rattle.spec_lang.specs.Specification.{Check}
 use Rattle.spec_lang.specs.WellFormed.{NamesBelow}
 use Rattle.spec_lang.proofs.Naming.{left_named, right_named}
-use Rattle.builder.specs.View.{StandsAt}
-use Rattle.builder.proofs.LevelLaws.{good_at, stays}
-use Rattle.builder.proofs.StoreLaws.{keeps_on}
+use Rattle.diagram.specs.View.{StandsAt}
+use Rattle.diagram.proofs.LevelLaws.{good_at, stays}
+use Rattle.diagram.proofs.StoreLaws.{keeps_on}
 use Rattle.checks.specs.Forward.{building_work}
 use Rattle.checks.specs.Sides.{side}
-use Rattle.kinds.specs.Plain.{PlainEdge, plain}
+use Rattle.kind_laws.specs.Plain.{PlainEdge, plain}
 use Rattle.word_apply.specs.Applied.{AreEdges, plain_edges}
 use Rattle.word_apply.proofs.EdgeLists.{still_edges}
 use Rattle.word_apply.proofs.ExpressionCalls.{IsFormula}

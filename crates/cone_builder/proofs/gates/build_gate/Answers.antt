@@ -2,10 +2,10 @@ use Rattle.std.proofs.Common.{◌≡◌, refl, ◌∙◌, sym, ap, subst, length
 use Rattle.std.specs.Prelude.{slice_index_or, Ok, Err}
 use Rattle.std.proofs.lemmas.List.{length-map}
 use Rattle.std.proofs.lemmas.List.Elements.{Contains-get_or}
-use Rattle.builder.proofs.LevelLaws.{good_at}
+use Rattle.diagram.proofs.LevelLaws.{good_at}
 use Rattle.checks.specs.Work.{gate_table}
 use Rattle.circuits.specs.Circuit.{Gate, name_of}
-use Rattle.kinds.specs.Plain.{PlainEdge, plain}
+use Rattle.kind_laws.specs.Plain.{PlainEdge, plain}
 use Rattle.word_apply.specs.Applied.{AreEdges, IsOfAll, plain_edges, gate_work_at}
 use Rattle.word_apply.proofs.EdgeLists.{still_edges, all_somewhere}
 use Rattle.cone_builder.specs.Built.{AreBuilt, or_listed}

@@ -1,8 +1,8 @@
 use Rattle.std.proofs.Common.{◌≡◌, refl, sym, ◌∙◌, subst, take, get_or, List, ℕ, arith}
 use Rattle.std.proofs.lemmas.List.{take_all, length-map}
 use Rattle.std.specs.Prelude.{Ok}
-use Rattle.builder.proofs.StoreLaws.{keeps_on}
-use Rattle.kinds.specs.Plain.{plain}
+use Rattle.diagram.proofs.StoreLaws.{keeps_on}
+use Rattle.kind_laws.specs.Plain.{plain}
 use Rattle.word_apply.specs.Applied.{plain_edges}
 use Rattle.cone_builder.specs.Built.{AreBuilt, or_listed}
 use Rattle.cone_builder.specs.Causes.{limit_met}

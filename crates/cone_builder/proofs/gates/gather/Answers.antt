@@ -1,7 +1,7 @@
 use Rattle.std.proofs.Common.{◌∙◌, ◌++◌, ◌∷◌, [], sym, ap, map, length, get_or, subst, ◌<◌, ℕ, arith}
 use Rattle.std.specs.Prelude.{slice_index_or}
 use Rattle.std.proofs.lemmas.List.{take_all, length-map, map-append}
-use Rattle.kinds.specs.Plain.{plain}
+use Rattle.kind_laws.specs.Plain.{plain}
 use Rattle.word_apply.specs.Applied.{plain_edges}
 use Rattle.cone_builder.proofs.BuiltLaws.{gathered_more, plain_at}
 use Rattle.cone_builder.proofs.gates.gather.Goals as goal

@@ -1,6 +1,6 @@
 use Rattle.std.proofs.Common.{◌≡◌, take, map}
 use Rattle.std.specs.Prelude.{slice_index_or}
-use Rattle.kinds.specs.Plain.{PlainEdge}
+use Rattle.kind_laws.specs.Plain.{PlainEdge}
 use Rattle.word_apply.specs.Applied.{plain_edges}
 use Rattle.cone_builder.proofs.gates.gather.Given as goal
 

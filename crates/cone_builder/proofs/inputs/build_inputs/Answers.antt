@@ -2,9 +2,9 @@ use Rattle.std.proofs.Common.{◌≡◌, refl, sym, ◌∙◌, subst, take, get_
 use Rattle.std.specs.Prelude.{slice_set, Ok, Err}
 use Rattle.std.proofs.lemmas.List.{take_all}
 use Rattle.std.proofs.lemmas.Option.{slice_get-get_or}
-use Rattle.builder.proofs.CallLaws.{causes_of}
-use Rattle.builder.proofs.StoreLaws.{keeps_on}
-use Rattle.kinds.specs.Plain.{PlainEdge, plain}
+use Rattle.diagram.proofs.CallLaws.{causes_of}
+use Rattle.diagram.proofs.StoreLaws.{keeps_on}
+use Rattle.kind_laws.specs.Plain.{PlainEdge, plain}
 use Rattle.tables.specs.Pieces.{pieces}
 use Rattle.word_apply.specs.Applied.{plain_edges}
 use Rattle.cone_builder.specs.Built.{AreBuilt, is_marked}

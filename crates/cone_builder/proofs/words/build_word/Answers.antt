@@ -2,9 +2,9 @@ use Rattle.std.proofs.Common.{◌≡◌, refl, ◌∙◌, ℕ, ◌<◌, sym, ap,
 use Rattle.std.specs.Prelude.{All, Contains, slice_index_or, Ok, Err}
 use Rattle.std.proofs.lemmas.List.{length-map}
 use Rattle.std.proofs.lemmas.List.Elements.{All-contains}
-use Rattle.builder.proofs.LevelLaws.{good_at}
+use Rattle.diagram.proofs.LevelLaws.{good_at}
 use Rattle.checks.specs.Work.{word_table, word_work}
-use Rattle.kinds.specs.Plain.{PlainEdge, plain}
+use Rattle.kind_laws.specs.Plain.{PlainEdge, plain}
 use Rattle.spec_lang.specs.Value.{nets_of}
 use Rattle.word_apply.specs.Applied.{AreEdges, IsOfAll, plain_edges}
 use Rattle.word_apply.proofs.EdgeLists.{still_edges, all_somewhere}

@@ -1,5 +1,5 @@
-use Rattle.kinds.specs.Plain.{plain}
-use Rattle.builder.proofs.LevelLaws.{still_edge}
+use Rattle.kind_laws.specs.Plain.{plain}
+use Rattle.diagram.proofs.LevelLaws.{still_edge}
 use Rattle.counterexample.proofs.tests.check.Goals as goal
 
 pub walk_between-requires-clause-left_good : goal.walk_between-requires-clause-left_good

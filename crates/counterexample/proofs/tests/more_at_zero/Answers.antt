@@ -1,6 +1,6 @@
 use Rattle.std.proofs.Common.{arith}
-use Rattle.kinds.specs.Plain.{plain}
-use Rattle.builder.proofs.LevelLaws.{good_at}
+use Rattle.kind_laws.specs.Plain.{plain}
+use Rattle.diagram.proofs.LevelLaws.{good_at}
 use Rattle.counterexample.proofs.tests.more_at_zero.Goals as goal
 
 pub sub-requires-clause-a_good : goal.sub-requires-clause-a_good

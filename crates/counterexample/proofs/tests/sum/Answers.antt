@@ -1,5 +1,5 @@
 use Rattle.std.proofs.Common.{arith}
-use Rattle.builder.proofs.StoreLaws.{keeps_itself, keeps_on}
+use Rattle.diagram.proofs.StoreLaws.{keeps_itself, keeps_on}
 use Rattle.counterexample.proofs.tests.sum.Goals as goal
 
 pub loop-product-init : goal.loop-product-init

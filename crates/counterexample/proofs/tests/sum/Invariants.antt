@@ -1,5 +1,5 @@
-use Rattle.kinds.specs.Plain.{plain}
-use Rattle.builder.specs.View.{IsEdge, Keeps}
+use Rattle.kind_laws.specs.Plain.{plain}
+use Rattle.diagram.specs.View.{IsEdge, Keeps}
 use Rattle.counterexample.proofs.tests.sum.Given as goal
 
 abbrev pub invariant-loop-product : goal.invariant-loop-product

@@ -1,7 +1,7 @@
-use Rattle.kinds.specs.Plain.{plain}
-use Rattle.builder.proofs.EachLaws.{good_answer}
-use Rattle.builder.proofs.LevelLaws.{still_edge}
-use Rattle.builder.proofs.StoreLaws.{keeps_on}
+use Rattle.kind_laws.specs.Plain.{plain}
+use Rattle.diagram.proofs.EachLaws.{good_answer}
+use Rattle.diagram.proofs.LevelLaws.{still_edge}
+use Rattle.diagram.proofs.StoreLaws.{keeps_on}
 use Rattle.counterexample.proofs.tests.times.Goals as goal
 
 pub mul-requires-clause-a_good : goal.mul-requires-clause-a_good

@@ -1,6 +1,6 @@
 use Rattle.std.proofs.Common.{◌+◌, ◌<◌, Bool, List, length, arith, subst, sym}
-use Rattle.kinds.specs.Plain.{plain}
-use Rattle.builder.proofs.StoreLaws.{keeps_on}
+use Rattle.kind_laws.specs.Plain.{plain}
+use Rattle.diagram.proofs.StoreLaws.{keeps_on}
 use Rattle.counterexample.specs.Steps.{plain_turn}
 use Rattle.counterexample.proofs.StepLaws.{err_is}
 use Rattle.counterexample.proofs.WalkLaws.{IsWalked, left_can_part, right_can_part, one_step_more, walk_refuses, walk_ends, walk_causes}

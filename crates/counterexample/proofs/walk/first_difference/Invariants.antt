@@ -1,4 +1,4 @@
-use Rattle.kinds.specs.Plain.{plain}
+use Rattle.kind_laws.specs.Plain.{plain}
 use Rattle.counterexample.proofs.WalkLaws.{IsWalked}
 use Rattle.counterexample.proofs.walk.first_difference.Given as goal
 

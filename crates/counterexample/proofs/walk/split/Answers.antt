@@ -1,8 +1,8 @@
 use Rattle.std.proofs.Common.{sym, subst}
-use Rattle.kinds.specs.Plain.{plain}
+use Rattle.kind_laws.specs.Plain.{plain}
 use Rattle.word_base.specs.declared.decomp.Decomp.TheVariants.{N}
-use Rattle.builder.specs.View.{View, IsEdge}
-use Rattle.builder.specs.declared.limit.Limit.TheVariants as limit
+use Rattle.diagram.specs.View.{View, IsEdge}
+use Rattle.diagram.specs.declared.limit.Limit.TheVariants as limit
 use Rattle.counterexample.specs.Steps.{plain_choice, IsChoice}
 use Rattle.counterexample.proofs.StepLaws.{err_is_answered, letter_read, no_parts, parts_good, sum_refuses, sum_offers}
 use Rattle.counterexample.proofs.walk.split.Goals as goal

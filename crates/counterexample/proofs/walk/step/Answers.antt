@@ -1,6 +1,6 @@
 use Rattle.std.proofs.Common.{sym, subst}
-use Rattle.kinds.specs.Plain.{plain}
-use Rattle.builder.proofs.StoreLaws.{keeps_on}
+use Rattle.kind_laws.specs.Plain.{plain}
+use Rattle.diagram.proofs.StoreLaws.{keeps_on}
 use Rattle.counterexample.specs.Steps.{plain_choice, plain_turn, IsTurn}
 use Rattle.counterexample.proofs.StepLaws.{err_is_answered, still_can_part, left_refuses, right_refuses, step_turns}
 use Rattle.counterexample.proofs.walk.step.Goals as goal

@@ -1,7 +1,7 @@
 use Rattle.std.proofs.Common.{◌≡◌, sym, subst, length, arith, rules}
-use Rattle.builder.proofs.LevelLaws.{still_edge, good_at}
-use Rattle.builder.proofs.StoreLaws.{keeps_itself, keeps_on}
-use Rattle.kinds.specs.Plain.{plain, answered}
+use Rattle.diagram.proofs.LevelLaws.{still_edge, good_at}
+use Rattle.diagram.proofs.StoreLaws.{keeps_itself, keeps_on}
+use Rattle.kind_laws.specs.Plain.{plain, answered}
 use Rattle.spec_lang.specs.Formula.{formula_of}
 use Rattle.spec_lang.specs.declared.expr.Expr.TheVariants as variant
 use Rattle.word_apply.specs.Applied.{plain_edges}

@@ -1,7 +1,7 @@
 use Rattle.std.proofs.Common.{refl, sym, ◌∙◌, ap, subst, inl, inr}
 use Rattle.std.specs.Prelude.{Ok}
-use Rattle.builder.specs.Calls.{IsOfBoth}
-use Rattle.kinds.specs.Plain.{plain, answered}
+use Rattle.diagram.specs.Calls.{IsOfBoth}
+use Rattle.kind_laws.specs.Plain.{plain, answered}
 use Rattle.spec_lang.specs.Formula.{Formula, number, word, negative, formula_of}
 use Rattle.spec_lang.proofs.Formulas.{formula_of-Number, formula_of-Word, formula_of-Neg, formula_of-Add, formula_of-Sub, formula_of-Mul}
 use Rattle.tables.specs.Table.{zip_with}

@@ -1,9 +1,9 @@
 use Rattle.std.proofs.Common.{◌-◌, List, ◌∙◌, length, take, drop, subst, sym}
 use Rattle.std.specs.Prelude.{Ok}
-use Rattle.builder.proofs.LevelLaws.{good_at}
-use Rattle.builder.proofs.StoreLaws.{keeps_on}
+use Rattle.diagram.proofs.LevelLaws.{good_at}
+use Rattle.diagram.proofs.StoreLaws.{keeps_on}
 use Rattle.checks.specs.Work.{gate_table}
-use Rattle.kinds.specs.Plain.{plain, answered}
+use Rattle.kind_laws.specs.Plain.{plain, answered}
 use Rattle.word_apply.specs.Applied.{plain_edges, AreEdges, IsOfAll, gate_work_at}
 use Rattle.word_apply.proofs.EdgeLists.{first_and_rest, all_somewhere}
 use Rattle.word_apply.proofs.FoldCalls.{gate_refuses, gate_folded, gate_negated}

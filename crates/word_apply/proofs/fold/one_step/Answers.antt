@@ -1,11 +1,11 @@
 use Rattle.std.proofs.Common.{refl, subst, sym, inl, inr, length, drop}
 use Rattle.std.specs.Prelude.{Ok}
-use Rattle.builder.specs.Calls.{IsOfBoth}
-use Rattle.builder.proofs.JoinCauses.{answers_at_once}
+use Rattle.diagram.specs.Calls.{IsOfBoth}
+use Rattle.diagram.proofs.JoinCauses.{answers_at_once}
 use Rattle.checks.specs.Work.{step_table}
 use Rattle.circuits.specs.declared.gate_word.GateWord.{GateWord}
 use Rattle.circuits.specs.declared.gate_word.GateWord.TheVariants.{Not, Buff}
-use Rattle.kinds.specs.Plain.{plain, answered}
+use Rattle.kind_laws.specs.Plain.{plain, answered}
 use Rattle.word_apply.specs.Applied.{step_work_at}
 use Rattle.word_apply.proofs.FoldCalls.{step_of_none}
 use Rattle.word_apply.proofs.fold.one_step.Goals as goal

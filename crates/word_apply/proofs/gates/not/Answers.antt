@@ -1,5 +1,5 @@
 use Rattle.std.proofs.Common.{arith, ℕ, ◌≤◌}
-use Rattle.kinds.specs.Plain.{plain, answered}
+use Rattle.kind_laws.specs.Plain.{plain, answered}
 use Rattle.word_apply.proofs.GateCalls.{negation_answers}
 use Rattle.word_apply.proofs.gates.not.Goals as goal
 

@@ -1,8 +1,8 @@
 use Rattle.checks.specs.Work.{step_table}
 use Rattle.circuits.specs.declared.gate_word.GateWord.TheVariants.{Or}
-use Rattle.builder.proofs.LevelLaws.{still_edge, good_at}
-use Rattle.builder.proofs.StoreLaws.{keeps_on}
-use Rattle.kinds.specs.Plain.{plain, answered}
+use Rattle.diagram.proofs.LevelLaws.{still_edge, good_at}
+use Rattle.diagram.proofs.StoreLaws.{keeps_on}
+use Rattle.kind_laws.specs.Plain.{plain, answered}
 use Rattle.word_apply.proofs.CoverLaws.{or_made}
 use Rattle.word_apply.proofs.GateCalls.{product_refuses, or_sum_refuses, or_answers}
 use Rattle.word_apply.proofs.gates.or.Goals as goal

@@ -1,9 +1,9 @@
 use Rattle.std.proofs.Common.{refl, ◌∙◌}
 use Rattle.checks.specs.Work.{step_table}
 use Rattle.circuits.specs.declared.gate_word.GateWord.TheVariants.{Xor}
-use Rattle.builder.proofs.LevelLaws.{still_edge, good_at}
-use Rattle.builder.proofs.StoreLaws.{keeps_on}
-use Rattle.kinds.specs.Plain.{plain, answered}
+use Rattle.diagram.proofs.LevelLaws.{still_edge, good_at}
+use Rattle.diagram.proofs.StoreLaws.{keeps_on}
+use Rattle.kind_laws.specs.Plain.{plain, answered}
 use Rattle.word_apply.proofs.CoverLaws.{xor_made}
 use Rattle.word_apply.proofs.GateCalls.{product_refuses, xor_twice_refuses, xor_sum_refuses, xor_answers}
 use Rattle.word_apply.proofs.gates.xor.Goals as goal

@@ -1,6 +1,6 @@
 use Rattle.std.proofs.Common.{subst, sym}
-use Rattle.builder.proofs.LevelLaws.{good_at}
-use Rattle.kinds.specs.Plain.{plain}
+use Rattle.diagram.proofs.LevelLaws.{good_at}
+use Rattle.kind_laws.specs.Plain.{plain}
 use Rattle.word_apply.specs.Applied.{AreEdges, plain_edges}
 use Rattle.word_apply.proofs.EdgeLists.{one_more_edge}
 use Rattle.word_apply.proofs.tests.of_variable.Goals as goal

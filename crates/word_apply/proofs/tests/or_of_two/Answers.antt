@@ -1,5 +1,5 @@
-use Rattle.builder.proofs.LevelLaws.{still_edge, good_at}
-use Rattle.kinds.specs.Plain.{plain}
+use Rattle.diagram.proofs.LevelLaws.{still_edge, good_at}
+use Rattle.kind_laws.specs.Plain.{plain}
 use Rattle.word_apply.proofs.tests.or_of_two.Goals as goal
 
 pub or-requires-clause-a_good : goal.or-requires-clause-a_good

@@ -1,7 +1,7 @@
 use Rattle.std.proofs.Common.{[], subst, sym}
-use Rattle.builder.proofs.LevelLaws.{still_edge, good_at}
-use Rattle.builder.proofs.StoreLaws.{keeps_on}
-use Rattle.kinds.specs.Plain.{plain}
+use Rattle.diagram.proofs.LevelLaws.{still_edge, good_at}
+use Rattle.diagram.proofs.StoreLaws.{keeps_on}
+use Rattle.kind_laws.specs.Plain.{plain}
 use Rattle.word_apply.specs.Applied.{AreEdges, plain_edges}
 use Rattle.word_apply.proofs.EdgeLists.{one_more_edge}
 use Rattle.word_apply.proofs.tests.two_variables.Goals as goal

@@ -1,8 +1,8 @@
 use Rattle.std.proofs.Common.{◌+◌, ◌-◌, ◌^◌, List, [], length, take, drop, subst, sym}
 use Rattle.std.specs.Prelude.{Ok}
-use Rattle.builder.proofs.LevelLaws.{still_edge, good_at}
-use Rattle.builder.proofs.StoreLaws.{keeps_on}
-use Rattle.kinds.specs.Plain.{plain, answered}
+use Rattle.diagram.proofs.LevelLaws.{still_edge, good_at}
+use Rattle.diagram.proofs.StoreLaws.{keeps_on}
+use Rattle.kind_laws.specs.Plain.{plain, answered}
 use Rattle.word_apply.specs.Applied.{plain_edges, AreEdges, IsOfRest, sum_work}
 use Rattle.word_apply.proofs.EdgeLists.{first_and_rest, still_edges, shorter, is_empty}
 use Rattle.word_apply.proofs.WordCalls.{sum_from, sum_of_none, multiple_refuses, sum_refuses, sum_answers, one_fewer}

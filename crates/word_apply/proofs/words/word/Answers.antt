@@ -1,6 +1,6 @@
 use Rattle.std.proofs.Common.{◌-◌, List, length, take, drop, subst, sym}
 use Rattle.checks.specs.Work.{word_table, word_work}
-use Rattle.kinds.specs.Plain.{plain, answered}
+use Rattle.kind_laws.specs.Plain.{plain, answered}
 use Rattle.word_apply.specs.Applied.{plain_edges, IsOfAll}
 use Rattle.word_apply.proofs.EdgeLists.{first_and_rest}
 use Rattle.word_apply.proofs.WordCalls.{word_answers}

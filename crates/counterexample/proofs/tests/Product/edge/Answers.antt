@@ -1,5 +1,5 @@
 use Rattle.std.proofs.Common.{arith}
-use Rattle.builder.proofs.StoreLaws.{keeps_on}
+use Rattle.diagram.proofs.StoreLaws.{keeps_on}
 use Rattle.counterexample.proofs.tests.Product.edge.Goals as goal
 
 pub times-requires-after_bounds : goal.times-requires-after_bounds

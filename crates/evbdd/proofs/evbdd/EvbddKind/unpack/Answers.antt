@@ -1,6 +1,6 @@
 use Rattle.std.proofs.Common.{◌∙◌}
 use Rattle.word_base.specs.declared.kind_name.KindName.TheVariants.{Evbdd}
-use Rattle.kinds.proofs.EdgeLaws.{without_extra}
+use Rattle.kind_laws.proofs.EdgeLaws.{without_extra}
 use Rattle.evbdd.proofs.evbdd.EvbddKind.unpack.Goals as goal
 
 pub returns : goal.returns

@@ -1,5 +1,5 @@
 use Rattle.std.proofs.Common.{refl, pos}
-use Rattle.kinds.specs.Plain.{plain, no_extra}
+use Rattle.kind_laws.specs.Plain.{plain, no_extra}
 use Rattle.hdd.proofs.SkipLaws.{skip_told, no_skip}
 use Rattle.hdd.proofs.hdd.HddKind.join.Goals as goal
 

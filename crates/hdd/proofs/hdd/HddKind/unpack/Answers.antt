@@ -1,6 +1,6 @@
 use Rattle.std.proofs.Common.{◌∙◌}
 use Rattle.word_base.specs.declared.kind_name.KindName.TheVariants.{Hdd}
-use Rattle.kinds.proofs.EdgeLaws.{without_extra}
+use Rattle.kind_laws.proofs.EdgeLaws.{without_extra}
 use Rattle.hdd.proofs.hdd.HddKind.unpack.Goals as goal
 
 pub returns : goal.returns

@@ -1,5 +1,5 @@
 use Rattle.std.proofs.Common.{refl}
-use Rattle.kinds.specs.Plain.{PlainEdge, plain}
+use Rattle.kind_laws.specs.Plain.{PlainEdge, plain}
 use Rattle.k_star_bmd.specs.Additive.{own_extra}
 use Rattle.k_star_bmd.proofs.JoinLaws.{divides_low, divides_high, divides_rest, divisor-nonzero, skip-fits, rest-fits, node_is}
 use Rattle.k_star_bmd.proofs.SkipLaws.{skip_told, no_skip}

@@ -1,0 +1,160 @@
+use Rattle.std.proofs.Common.{sym, ◌∙◌, subst, ℕ, ◌+◌, ◌-◌, ◌*◌, ◌<◌, ◌≤◌, ◌*ℤ◌, length, arith, rules}
+use Rattle.std.specs.Prelude.{Ok}
+use Rattle.tables.specs.Table.{multiple}
+use Rattle.tables.specs.Pieces.{scale_work}
+use Rattle.kind_laws.specs.Plain.{plain}
+use Rattle.diagram.specs.Calls.{CanPart, ArePartsOf, IsOfEach, PartLiesBelow}
+use Rattle.diagram.specs.View.{View, top_of}
+use Rattle.diagram.specs.declared.limit.Limit.TheVariants as limit
+use Rattle.diagram.proofs.BothLaws.{constant_is, constant_answers_each}
+use Rattle.diagram.proofs.CallLaws.{same_keeps}
+use Rattle.diagram.proofs.EachLaws.{can_part_at, part_lies_below, each_of_parts, each_unfit, refused_each}
+use Rattle.diagram.proofs.LevelLaws.{still_edge}
+use Rattle.diagram.proofs.MultipleLaws.{scale_by_halves, scale_covers_multiple, scale_covers_operand}
+use Rattle.diagram.proofs.MultipleCalls.{low_multiple_refuses, high_multiple_refuses, multiple_joins, multiples_can_join, falls_to_high_part}
+use Rattle.diagram.proofs.RememberedLaws.{known_each, each_result}
+use Rattle.diagram.proofs.StoreLaws.{keeps_on, keeps_itself}
+use Rattle.diagram.proofs.builder.Builder.+multiple.Goals as goal
+
+pub scale-value-requires : goal.scale-value-requires
+scale-value-requires g t c = constant_is g.K.Kind.NAME c.args.self.now (plain g.K.Kind.extra_of c.args.a) c.requires c.if-a-eq0.true
+
+pub scale-returns-then-a-eq0-clause-multiple : goal.scale-returns-then-a-eq0-clause-multiple
+scale-returns-then-a-eq0-clause-multiple g t c = λ l x h.
+    let k = g.K.Kind.NAME in
+    let v = c.args.self.now in
+    let factor = c.args.factor in
+    constant_answers_each k v (λ n. factor *ℤ n) (scale_work factor l x) l x (plain g.K.Kind.extra_of c.args.a) c.value.result c.mul.result _ c.value.ensures c.mul.ensures
+    c.constant_of.ensures h (scale_covers_multiple k v.letters factor l x)
+
+pub scale-returns-in-Some-clause-multiple : goal.scale-returns-in-Some-clause-multiple
+scale-returns-in-Some-clause-multiple g t c =
+    known_each g.K.Kind.NAME c.args.factor (scale_work c.args.factor) c.args.self.now (plain g.K.Kind.extra_of c.constant-constant.result) (plain g.K.Kind.extra_of c.args.a)
+    (plain g.K.Kind.extra_of c.in-Some.multiple) c.constant-constant.ensures.edge c.in-Some.ensures
+
+pub scale-remember-requires-clause-is_result : goal.scale-remember-requires-clause-is_result
+scale-remember-requires-clause-is_result g t c = λ lives bounds.
+    each_result g.K.Kind.NAME c.args.factor (scale_work c.args.factor) c.args.self.now c.scale_anew.new.self (plain g.K.Kind.extra_of c.constant-constant.result)
+    (plain g.K.Kind.extra_of c.args.a) (plain g.K.Kind.extra_of c.in_ok-multiple.multiple) c.constant-constant.ensures.edge c.in_ok-multiple.ensures.keeps c.requires
+    c.in_ok-multiple.ensures.multiple
+
+pub scale-returns-clause-multiple : goal.scale-returns-clause-multiple
+scale-returns-clause-multiple g t c =
+    let k = g.K.Kind.NAME in
+    let factor = c.args.factor in
+    let a = plain g.K.Kind.extra_of c.args.a in
+    subst (λ (w : View). IsOfEach (multiple factor) (scale_work factor) k c.args.self.now w a (Ok (plain g.K.Kind.extra_of c.in_ok-multiple.multiple))) (sym c.remember.ensures)
+    c.in_ok-multiple.ensures.multiple
+
+pub scale-returns-then-a-eq0-clause-keeps : goal.scale-returns-then-a-eq0-clause-keeps
+scale-returns-then-a-eq0-clause-keeps g t c = keeps_itself c.args.self.now
+
+pub scale-returns-in_err-multiple-clause-multiple : goal.scale-returns-in_err-multiple-clause-multiple
+scale-returns-in_err-multiple-clause-multiple g t c =
+    let k = g.K.Kind.NAME in
+    let factor = c.args.factor in
+    refused_each k (multiple factor) (scale_work factor) c.args.self.now c.scale_anew.new.self (plain g.K.Kind.extra_of c.args.a) (plain g.K.Kind.extra_of) c.from_residual.result
+    c.in_err-multiple.field-0.0 c.from_residual.ensures.1 c.in_err-multiple.ensures.multiple
+
+pub scale-remember-requires-clause-a_good : goal.scale-remember-requires-clause-a_good
+scale-remember-requires-clause-a_good g t c = λ lives bounds.
+    let v = c.args.self.now in
+    let start : 0 ≤ length v.letters = omega arith in
+    still_edge g.K.Kind.NAME v c.scale_anew.new.self (plain g.K.Kind.extra_of c.constant-constant.result) c.in_ok-multiple.ensures.keeps (_, c.constant-constant.ensures.table 0 start)
+
+pub scale-remember-requires-clause-b_good : goal.scale-remember-requires-clause-b_good
+scale-remember-requires-clause-b_good g t c = λ lives bounds.
+    still_edge g.K.Kind.NAME c.args.self.now c.scale_anew.new.self (plain g.K.Kind.extra_of c.args.a) c.in_ok-multiple.ensures.keeps c.requires
+
+pub scale_anew-parts-requires-after_bounds : goal.scale_anew-parts-requires-after_bounds
+scale_anew-parts-requires-after_bounds g t c = λ lives bounds.
+    let k = g.K.Kind.NAME in
+    let v = c.args.self.now in
+    let a = plain g.K.Kind.extra_of c.args.a in
+    subst (λ (w : View). CanPart k w c.top-level.result a) (sym c.top-level.ensures.unchanged)
+    (can_part_at k v a c.top-level.result c.requires.good c.requires.no_leaf c.top-level.ensures.level)
+
+pub scale_anew-returns-in_err-parts-clause-keeps : goal.scale_anew-returns-in_err-parts-clause-keeps
+scale_anew-returns-in_err-parts-clause-keeps g t c =
+    same_keeps c.args.self.now c.parts.new.self (c.in_err-parts.ensures.unchanged ∙ c.top-level.ensures.unchanged)
+
+pub scale_anew-returns-in_err-parts-clause-multiple : goal.scale_anew-returns-in_err-parts-clause-multiple
+scale_anew-returns-in_err-parts-clause-multiple g t c =
+    let k = g.K.Kind.NAME in
+    let v = c.args.self.now in
+    let a = plain g.K.Kind.extra_of c.args.a in
+    let factor = c.args.factor in
+    refused_each k (multiple factor) (scale_work factor) v c.parts.new.self a (plain g.K.Kind.extra_of) c.from_residual.result limit.Overflow c.from_residual.ensures.1
+    (each_unfit k (multiple factor) (scale_work factor) v c.top-level.new.self c.parts.new.self a c.top-level.result c.in_err-parts.field-0.0
+    c.top-level.ensures.unchanged c.in_err-parts.ensures.unchanged c.requires.good c.top-level.ensures.level (scale_by_halves k v factor c.requires.good.1.allowed)
+    (λ l x. scale_covers_operand k v.letters factor l x) c.in_err-parts.ensures.parts)
+
+pub scale_anew-scale_at-requires-after_bounds : goal.scale_anew-scale_at-requires-after_bounds
+scale_anew-scale_at-requires-after_bounds g t c = λ lives bounds.
+    let k = g.K.Kind.NAME in
+    let v = c.args.self.now in
+    let a = plain g.K.Kind.extra_of c.args.a in
+    let low = plain g.K.Kind.extra_of c.in_ok-parts.parts.0 in
+    let high = plain g.K.Kind.extra_of c.in_ok-parts.parts.1 in
+    let level = c.top-level.result in
+    let here = subst (λ (w : View). ArePartsOf k w level a (Ok (low, high))) c.top-level.ensures.unchanged c.in_ok-parts.ensures.parts in
+    subst (λ (w : View). PartLiesBelow k w level low high) (sym (c.in_ok-parts.ensures.unchanged ∙ c.top-level.ensures.unchanged))
+    (part_lies_below k v level a low high (can_part_at k v a level c.requires.good c.requires.no_leaf c.top-level.ensures.level) here)
+
+pub scale_anew-returns-clause-multiple : goal.scale_anew-returns-clause-multiple
+scale_anew-returns-clause-multiple g t c =
+    let k = g.K.Kind.NAME in
+    let v = c.args.self.now in
+    let a = plain g.K.Kind.extra_of c.args.a in
+    let low = plain g.K.Kind.extra_of c.in_ok-parts.parts.0 in
+    let high = plain g.K.Kind.extra_of c.in_ok-parts.parts.1 in
+    let factor = c.args.factor in
+    each_of_parts k (multiple factor) (scale_work factor) v c.top-level.new.self c.parts.new.self c.scale_at.new.self a c.top-level.result low high _
+    c.top-level.ensures.unchanged c.in_ok-parts.ensures.unchanged c.requires.good c.top-level.ensures.level c.scale_at.ensures.keeps
+    (scale_by_halves k v factor c.requires.good.1.allowed) c.in_ok-parts.ensures.parts c.scale_at.ensures.multiple
+
+pub scale_at-returns-in_err-low-clause-multiple : goal.scale_at-returns-in_err-low-clause-multiple
+scale_at-returns-in_err-low-clause-multiple g t c = λ x s.
+    low_multiple_refuses g.K.Kind.NAME c.args.self.now c.scale.new.self c.args.level c.args.factor x _ _ (plain g.K.Kind.extra_of) c.from_residual.result
+    c.in_err-low.field-0.0 c.requires s c.from_residual.ensures.1 c.in_err-low.ensures.keeps c.in_err-low.ensures.multiple
+
+pub scale_at-scale-requires-2 : goal.scale_at-scale-requires-2
+scale_at-scale-requires-2 g t c = λ lives bounds.
+    let k = g.K.Kind.NAME in
+    let v = c.args.self.now in
+    let w = c.scale.new.self in
+    let low = plain g.K.Kind.extra_of c.args.low in
+    let high = plain g.K.Kind.extra_of c.args.high in
+    let keeps = c.in_ok-low.ensures.keeps in
+    let falls = falls_to_high_part k v w c.args.level low high c.requires keeps in
+    (subst (λ (n : ℕ). 3 * (length w.letters - top_of w high.node) + 2 < n) c.decreases falls, (bounds.0, (bounds.1.0, (bounds.1.1, (search rules, (search rules, (search rules, (search rules, still_edge k v w high keeps c.requires.high_lies.good))))))))
+
+pub scale_at-returns-in_err-high-clause-keeps : goal.scale_at-returns-in_err-high-clause-keeps
+scale_at-returns-in_err-high-clause-keeps g t c =
+    keeps_on c.args.self.now c.scale.new.self c.scale-2.new.self c.in_ok-low.ensures.keeps c.in_err-high.ensures.keeps
+
+pub scale_at-returns-in_err-high-clause-multiple : goal.scale_at-returns-in_err-high-clause-multiple
+scale_at-returns-in_err-high-clause-multiple g t c = λ x s.
+    high_multiple_refuses g.K.Kind.NAME c.args.self.now c.scale.new.self c.scale-2.new.self c.args.level c.args.factor x _ _ (plain g.K.Kind.extra_of c.in_ok-low.low)
+    (plain g.K.Kind.extra_of) c.from_residual-in_err-high.result c.in_err-high.field-0.0 c.requires s c.from_residual-in_err-high.ensures.1
+    c.in_ok-low.ensures.keeps c.in_ok-low.ensures.multiple c.in_err-high.ensures.keeps c.in_err-high.ensures.multiple
+
+pub scale_at-join-requires-after_bounds : goal.scale_at-join-requires-after_bounds
+scale_at-join-requires-after_bounds g t c = λ lives bounds.
+    multiples_can_join g.K.Kind.NAME c.args.self.now c.scale.new.self c.scale-2.new.self c.args.level c.args.factor _ _ (plain g.K.Kind.extra_of c.in_ok-low.low)
+    (plain g.K.Kind.extra_of c.in_ok-high.high) c.requires c.in_ok-low.ensures.keeps c.in_ok-low.ensures.multiple c.in_ok-high.ensures.keeps c.in_ok-high.ensures.multiple
+
+pub scale_at-returns-clause-keeps : goal.scale_at-returns-clause-keeps
+scale_at-returns-clause-keeps g t c =
+    keeps_on c.args.self.now c.scale-2.new.self c.join.new.self
+    (keeps_on c.args.self.now c.scale.new.self c.scale-2.new.self c.in_ok-low.ensures.keeps c.in_ok-high.ensures.keeps) c.join.ensures.keeps
+
+pub scale_at-returns-clause-multiple : goal.scale_at-returns-clause-multiple
+scale_at-returns-clause-multiple g t c = λ x s.
+    multiple_joins g.K.Kind.NAME c.args.self.now c.scale.new.self c.scale-2.new.self c.join.new.self c.args.level c.args.factor x _ _ (plain g.K.Kind.extra_of c.in_ok-low.low)
+    (plain g.K.Kind.extra_of c.in_ok-high.high) _ c.requires s c.in_ok-low.ensures.keeps c.in_ok-low.ensures.multiple c.in_ok-high.ensures.keeps
+    c.in_ok-high.ensures.multiple c.join.ensures.keeps c.join.ensures.join
+
+pub scale-known_product-requires-clause-a_good : goal.scale-known_product-requires-clause-a_good
+scale-known_product-requires-clause-a_good g t c = λ lives bounds.
+    let start : 0 ≤ length c.args.self.now.letters = omega arith in (_, c.constant-constant.ensures.table 0 start)

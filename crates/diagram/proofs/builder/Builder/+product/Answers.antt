@@ -1,0 +1,457 @@
+use Rattle.std.proofs.Common.{sym, ◌∙◌, subst, ap, ℕ, ◌+◌, ◌-◌, ◌*◌, ◌<◌, ◌*ℤ◌, List, length, min, rules}
+use Rattle.std.specs.Prelude.{Ok, Err}
+use Rattle.word_base.specs.declared.decomp.Decomp.{Decomp}
+use Rattle.tables.specs.Table.{times}
+use Rattle.kind_laws.specs.Plain.{plain, answered}
+use Rattle.diagram.specs.Calls.{CanPart, ArePartsOfBoth, IsOfBoth, IsOfParts, LieBelow, plain_parts}
+use Rattle.diagram.specs.Products.{product_work, mixed_products, high_products}
+use Rattle.diagram.specs.View.{View, letter_at, top_of}
+use Rattle.diagram.specs.declared.limit.Limit.TheVariants as limit
+use Rattle.diagram.proofs.BothLaws.{constant_is, constants_answer, HaveNode, can_part_first, can_part_second, parts_lie_below}
+use Rattle.diagram.proofs.CallLaws.{same_keeps, both_of_parts, both_unfit}
+use Rattle.diagram.proofs.LevelLaws.{still_edge, good_at}
+use Rattle.diagram.specs.declared.operation.Operation.TheVariants.{Product}
+use Rattle.diagram.proofs.RememberedLaws.{known_both, both_result}
+use Rattle.diagram.proofs.StoreLaws.{keeps_on, keeps_itself}
+use Rattle.diagram.proofs.StepLaws.{first_refuses, second_refuses, last_answers, sum_step}
+use Rattle.diagram.proofs.ProductLaws.{mul_by_halves, product_covers_product, product_covers_operands}
+use Rattle.diagram.proofs.ProductCalls.{some_parts, still_lie, falls_below, davio_at, below_step, shannon_low, shannon_high, davio_low, davio_high_part, davio_highs, low_by_high, high_by_low, first_stands, steps_can_join, product_answers}
+use Rattle.diagram.proofs.SumCalls.{refused_both}
+use Rattle.diagram.proofs.builder.Builder.+product.Goals as goal
+
+pub mul-value-requires : goal.mul-value-requires
+mul-value-requires g t c =
+    constant_is g.K.Kind.NAME c.args.self.now (plain g.K.Kind.extra_of c.args.a) c.requires.a_good (c.are_constants.ensures.0 c.if-are_constants.true).0
+
+pub mul-value-requires-then-are_constants : goal.mul-value-requires-then-are_constants
+mul-value-requires-then-are_constants g t c =
+    constant_is g.K.Kind.NAME c.args.self.now (plain g.K.Kind.extra_of c.args.b) c.requires.b_good (c.are_constants.ensures.0 c.if-are_constants.true).1
+
+pub mul-returns-then-are_constants-clause-product : goal.mul-returns-then-are_constants-clause-product
+mul-returns-then-are_constants-clause-product g t c = λ l x y h e.
+    let k = g.K.Kind.NAME in
+    let v = c.args.self.now in
+    let a = plain g.K.Kind.extra_of c.args.a in
+    let b = plain g.K.Kind.extra_of c.args.b in
+    constants_answer k v (λ m n. m *ℤ n) (product_work v.letters l x y) l x y a b c.value.result c.value-then-are_constants.result c.mul.result _
+    c.value.ensures c.value-then-are_constants.ensures c.mul.ensures c.constant_of.ensures h e (product_covers_product k v.letters l x y)
+
+pub mul-returns-in-Some-clause-product : goal.mul-returns-in-Some-clause-product
+mul-returns-in-Some-clause-product g t c =
+    let k = g.K.Kind.NAME in
+    let v = c.args.self.now in
+    let a = plain g.K.Kind.extra_of c.args.a in
+    let b = plain g.K.Kind.extra_of c.args.b in
+    known_both Product k (product_work v.letters) v a b (plain g.K.Kind.extra_of c.in-Some.product) c.in-Some.ensures
+
+pub mul-remember-requires-clause-is_result : goal.mul-remember-requires-clause-is_result
+mul-remember-requires-clause-is_result g t c = λ lives bounds.
+    let k = g.K.Kind.NAME in
+    let v = c.args.self.now in
+    let w = c.mul_anew.new.self in
+    let a = plain g.K.Kind.extra_of c.args.a in
+    let b = plain g.K.Kind.extra_of c.args.b in
+    both_result Product k (product_work v.letters) v w a b (plain g.K.Kind.extra_of c.in_ok-product.product) c.in_ok-product.ensures.keeps c.requires.a_good c.requires.b_good
+    c.in_ok-product.ensures.product
+
+pub mul-returns-clause-product : goal.mul-returns-clause-product
+mul-returns-clause-product g t c =
+    let k = g.K.Kind.NAME in
+    let v = c.args.self.now in
+    let a = plain g.K.Kind.extra_of c.args.a in
+    let b = plain g.K.Kind.extra_of c.args.b in
+    subst (λ (w : View). IsOfBoth times (product_work v.letters) k v w a b (Ok (plain g.K.Kind.extra_of c.in_ok-product.product))) (sym c.remember.ensures) c.in_ok-product.ensures.product
+
+pub mul-returns-then-are_constants-clause-keeps : goal.mul-returns-then-are_constants-clause-keeps
+mul-returns-then-are_constants-clause-keeps g t c = keeps_itself c.args.self.now
+
+pub mul-returns-in_err-product-clause-product : goal.mul-returns-in_err-product-clause-product
+mul-returns-in_err-product-clause-product g t c =
+    let k = g.K.Kind.NAME in
+    let v = c.args.self.now in
+    let a = plain g.K.Kind.extra_of c.args.a in
+    let b = plain g.K.Kind.extra_of c.args.b in
+    refused_both k times (product_work v.letters) v c.mul_anew.new.self a b (plain g.K.Kind.extra_of) c.from_residual.result c.in_err-product.field-0.0 c.from_residual.ensures.1 c.in_err-product.ensures.product
+
+pub mul-remember-requires-clause-a_good : goal.mul-remember-requires-clause-a_good
+mul-remember-requires-clause-a_good g t c = λ lives bounds.
+    still_edge g.K.Kind.NAME c.args.self.now c.mul_anew.new.self (plain g.K.Kind.extra_of c.args.a) c.in_ok-product.ensures.keeps c.requires.a_good
+
+pub mul-remember-requires-clause-b_good : goal.mul-remember-requires-clause-b_good
+mul-remember-requires-clause-b_good g t c = λ lives bounds.
+    still_edge g.K.Kind.NAME c.args.self.now c.mul_anew.new.self (plain g.K.Kind.extra_of c.args.b) c.in_ok-product.ensures.keeps c.requires.b_good
+
+pub mul_anew-parts_of_both-requires-clause-a : goal.mul_anew-parts_of_both-requires-clause-a
+mul_anew-parts_of_both-requires-clause-a g t c = λ lives bounds.
+    let k = g.K.Kind.NAME in
+    let v = c.args.self.now in
+    let a = plain g.K.Kind.extra_of c.args.a in
+    let b = plain g.K.Kind.extra_of c.args.b in
+    let have : HaveNode k v a b = record { first = c.requires.a_good; second = c.requires.b_good; some = c.requires.some_node } in
+    subst (λ (w : View). CanPart k w c.upper-level.result a) (sym c.upper-level.ensures.unchanged)
+    (can_part_first k v a b c.upper-level.result have c.upper-level.ensures.upper)
+
+pub mul_anew-parts_of_both-requires-clause-b : goal.mul_anew-parts_of_both-requires-clause-b
+mul_anew-parts_of_both-requires-clause-b g t c = λ lives bounds.
+    let k = g.K.Kind.NAME in
+    let v = c.args.self.now in
+    let a = plain g.K.Kind.extra_of c.args.a in
+    let b = plain g.K.Kind.extra_of c.args.b in
+    let have : HaveNode k v a b = record { first = c.requires.a_good; second = c.requires.b_good; some = c.requires.some_node } in
+    subst (λ (w : View). CanPart k w c.upper-level.result b) (sym c.upper-level.ensures.unchanged)
+    (can_part_second k v a b c.upper-level.result have c.upper-level.ensures.upper)
+
+pub mul_anew-returns-in_err-parts-clause-keeps : goal.mul_anew-returns-in_err-parts-clause-keeps
+mul_anew-returns-in_err-parts-clause-keeps g t c =
+    same_keeps c.args.self.now c.parts_of_both.new.self (c.in_err-parts.ensures.unchanged ∙ c.upper-level.ensures.unchanged)
+
+pub mul_anew-returns-in_err-parts-clause-product : goal.mul_anew-returns-in_err-parts-clause-product
+mul_anew-returns-in_err-parts-clause-product g t c =
+    let k = g.K.Kind.NAME in
+    let v = c.args.self.now in
+    let a = plain g.K.Kind.extra_of c.args.a in
+    let b = plain g.K.Kind.extra_of c.args.b in
+    refused_both k times (product_work v.letters) v c.parts_of_both.new.self a b (plain g.K.Kind.extra_of) c.from_residual.result limit.Overflow c.from_residual.ensures.1
+    (both_unfit k times (product_work v.letters) v c.upper-level.new.self c.parts_of_both.new.self a b c.upper-level.result c.in_err-parts.field-0.0
+    c.upper-level.ensures.unchanged c.in_err-parts.ensures.unchanged c.requires.a_good c.requires.b_good c.upper-level.ensures.upper
+    (mul_by_halves k v c.requires.a_good.1.allowed) (λ l x y. product_covers_operands k v.letters l x y) c.in_err-parts.ensures.parts)
+
+pub mul_anew-mul_at-requires-after_bounds : goal.mul_anew-mul_at-requires-after_bounds
+mul_anew-mul_at-requires-after_bounds g t c = λ lives bounds.
+    let k = g.K.Kind.NAME in
+    let v = c.args.self.now in
+    let a = plain g.K.Kind.extra_of c.args.a in
+    let b = plain g.K.Kind.extra_of c.args.b in
+    let parts = plain_parts g.K.Kind.extra_of c.in_ok-parts.parts in
+    let level = c.upper-level.result in
+    let have : HaveNode k v a b = record { first = c.requires.a_good; second = c.requires.b_good; some = c.requires.some_node } in
+    let here = subst (λ (w : View). ArePartsOfBoth k w level a b (Ok parts)) c.upper-level.ensures.unchanged c.in_ok-parts.ensures.parts in
+    subst (λ (w : View). LieBelow k w level parts) (sym (c.in_ok-parts.ensures.unchanged ∙ c.upper-level.ensures.unchanged))
+    (parts_lie_below k v level a b parts
+    (can_part_first k v a b level have c.upper-level.ensures.upper)
+    (can_part_second k v a b level have c.upper-level.ensures.upper) here)
+
+pub mul_anew-returns-clause-product : goal.mul_anew-returns-clause-product
+mul_anew-returns-clause-product g t c =
+    let k = g.K.Kind.NAME in
+    let v = c.args.self.now in
+    let a = plain g.K.Kind.extra_of c.args.a in
+    let b = plain g.K.Kind.extra_of c.args.b in
+    let y = c.parts_of_both.new.self in
+    let parts = plain_parts g.K.Kind.extra_of c.in_ok-parts.parts in
+    let same = ap (λ (w : View). w.letters) (c.in_ok-parts.ensures.unchanged ∙ c.upper-level.ensures.unchanged) in
+    both_of_parts k times (product_work v.letters) v c.upper-level.new.self y c.mul_at.new.self a b c.upper-level.result parts _
+    c.upper-level.ensures.unchanged c.in_ok-parts.ensures.unchanged c.requires.a_good c.requires.b_good c.upper-level.ensures.upper c.mul_at.ensures.keeps
+    (mul_by_halves k v c.requires.a_good.1.allowed) c.in_ok-parts.ensures.parts
+    (subst (λ (ds : List Decomp). IsOfParts times (product_work ds) k y c.mul_at.new.self c.upper-level.result parts (answered (plain g.K.Kind.extra_of) c.mul_at.result)) same c.mul_at.ensures.product)
+
+pub shannon_product-returns-in_err-low-clause-product : goal.shannon_product-returns-in_err-low-clause-product
+shannon_product-returns-in_err-low-clause-product g t c = λ p q s.
+    let k = g.K.Kind.NAME in
+    let v = c.args.self.now in
+    let w = c.mul.new.self in
+    let level = c.args.level in
+    let parts = plain_parts g.K.Kind.extra_of c.args.parts in
+    first_refuses k v w (product_work v.letters level p q) level (level + 1) (times p q) _ (plain g.K.Kind.extra_of) c.from_residual.result c.in_err-low.field-0.0 c.from_residual.ensures.1
+    (shannon_low k v w level p q parts (Err c.in_err-low.field-0.0) c.requires.shannon c.requires.parts s c.in_err-low.ensures.keeps c.in_err-low.ensures.product)
+
+pub shannon_product-returns-in_err-high-clause-keeps : goal.shannon_product-returns-in_err-high-clause-keeps
+shannon_product-returns-in_err-high-clause-keeps g t c =
+    keeps_on c.args.self.now c.mul.new.self c.mul-2.new.self c.in_ok-low.ensures.keeps c.in_err-high.ensures.keeps
+
+pub shannon_product-returns-in_err-high-clause-product : goal.shannon_product-returns-in_err-high-clause-product
+shannon_product-returns-in_err-high-clause-product g t c = λ p q s.
+    let k = g.K.Kind.NAME in
+    let v = c.args.self.now in
+    let w = c.mul.new.self in
+    let level = c.args.level in
+    let parts = plain_parts g.K.Kind.extra_of c.args.parts in
+    let x = c.mul-2.new.self in
+    let first = plain g.K.Kind.extra_of c.in_ok-low.low in
+    second_refuses k v w x (product_work v.letters level p q) level (level + 1) (level + 1) (times p q) _ _ (Ok first) (plain g.K.Kind.extra_of) c.from_residual-in_err-high.result c.in_err-high.field-0.0 c.from_residual-in_err-high.ensures.1
+    (shannon_low k v w level p q parts (Ok first) c.requires.shannon c.requires.parts s c.in_ok-low.ensures.keeps c.in_ok-low.ensures.product)
+    (shannon_high k v w x level p q parts (Err c.in_err-high.field-0.0) c.requires.shannon c.requires.parts s c.in_ok-low.ensures.keeps c.in_err-high.ensures.keeps c.in_err-high.ensures.product)
+
+pub shannon_product-join-requires-after_bounds : goal.shannon_product-join-requires-after_bounds
+shannon_product-join-requires-after_bounds g t c = λ lives bounds.
+    let k = g.K.Kind.NAME in
+    let v = c.args.self.now in
+    let w = c.mul.new.self in
+    let level = c.args.level in
+    let parts = plain_parts g.K.Kind.extra_of c.args.parts in
+    let x = c.mul-2.new.self in
+    let first = plain g.K.Kind.extra_of c.in_ok-low.low in
+    let second = plain g.K.Kind.extra_of c.in_ok-high.high in
+    let some = some_parts k v level parts c.requires.parts in
+    steps_can_join k v w x (product_work v.letters level some.first some.second) level _ _ first second c.requires.parts.within
+    (shannon_low k v w level some.first some.second parts (Ok first) c.requires.shannon c.requires.parts some.stand c.in_ok-low.ensures.keeps c.in_ok-low.ensures.product)
+    (shannon_high k v w x level some.first some.second parts (Ok second) c.requires.shannon c.requires.parts some.stand c.in_ok-low.ensures.keeps c.in_ok-high.ensures.keeps c.in_ok-high.ensures.product)
+
+pub shannon_product-returns-clause-keeps : goal.shannon_product-returns-clause-keeps
+shannon_product-returns-clause-keeps g t c =
+    keeps_on c.args.self.now c.mul-2.new.self c.join.new.self (keeps_on c.args.self.now c.mul.new.self c.mul-2.new.self c.in_ok-low.ensures.keeps c.in_ok-high.ensures.keeps) c.join.ensures.keeps
+
+pub shannon_product-returns-clause-product : goal.shannon_product-returns-clause-product
+shannon_product-returns-clause-product g t c = λ p q s.
+    let k = g.K.Kind.NAME in
+    let v = c.args.self.now in
+    let w = c.mul.new.self in
+    let level = c.args.level in
+    let parts = plain_parts g.K.Kind.extra_of c.args.parts in
+    let x = c.mul-2.new.self in
+    let first = plain g.K.Kind.extra_of c.in_ok-low.low in
+    let second = plain g.K.Kind.extra_of c.in_ok-high.high in
+    product_answers k v w x c.join.new.self level p q parts first second _ c.requires.parts s
+    (shannon_low k v w level p q parts (Ok first) c.requires.shannon c.requires.parts s c.in_ok-low.ensures.keeps c.in_ok-low.ensures.product)
+    (shannon_high k v w x level p q parts (Ok second) c.requires.shannon c.requires.parts s c.in_ok-low.ensures.keeps c.in_ok-high.ensures.keeps c.in_ok-high.ensures.product)
+    c.join.ensures.keeps c.join.ensures.join
+
+pub davio_product-returns-in_err-low-clause-product : goal.davio_product-returns-in_err-low-clause-product
+davio_product-returns-in_err-low-clause-product g t c = λ p q s.
+    let k = g.K.Kind.NAME in
+    let v = c.args.self.now in
+    let w = c.mul.new.self in
+    let level = c.args.level in
+    let parts = plain_parts g.K.Kind.extra_of c.args.parts in
+    first_refuses k v w (product_work v.letters level p q) level (level + 1) (times p q) _ (plain g.K.Kind.extra_of) c.from_residual.result c.in_err-low.field-0.0 c.from_residual.ensures.1
+    (davio_low k v w level p q parts (Err c.in_err-low.field-0.0) c.requires.davio c.requires.parts s c.in_err-low.ensures.keeps c.in_err-low.ensures.product)
+
+pub davio_product-returns-in_err-high-clause-keeps : goal.davio_product-returns-in_err-high-clause-keeps
+davio_product-returns-in_err-high-clause-keeps g t c =
+    keeps_on c.args.self.now c.mul.new.self c.davio_high.new.self c.in_ok-low.ensures.keeps c.in_err-high.ensures.keeps
+
+pub davio_product-returns-in_err-high-clause-product : goal.davio_product-returns-in_err-high-clause-product
+davio_product-returns-in_err-high-clause-product g t c = λ p q s.
+    let k = g.K.Kind.NAME in
+    let v = c.args.self.now in
+    let w = c.mul.new.self in
+    let level = c.args.level in
+    let parts = plain_parts g.K.Kind.extra_of c.args.parts in
+    let x = c.davio_high.new.self in
+    let first = plain g.K.Kind.extra_of c.in_ok-low.low in
+    second_refuses k v w x (product_work v.letters level p q) level (level + 1) (level + 1) (times p q) _ _ (Ok first) (plain g.K.Kind.extra_of) c.from_residual-in_err-high.result c.in_err-high.field-0.0 c.from_residual-in_err-high.ensures.1
+    (davio_low k v w level p q parts (Ok first) c.requires.davio c.requires.parts s c.in_ok-low.ensures.keeps c.in_ok-low.ensures.product)
+    (davio_high_part k v w x level p q parts (Err c.in_err-high.field-0.0) c.requires.davio s c.in_ok-low.ensures.keeps c.in_err-high.ensures.keeps c.in_err-high.ensures.products)
+
+pub davio_product-join-requires-after_bounds : goal.davio_product-join-requires-after_bounds
+davio_product-join-requires-after_bounds g t c = λ lives bounds.
+    let k = g.K.Kind.NAME in
+    let v = c.args.self.now in
+    let w = c.mul.new.self in
+    let level = c.args.level in
+    let parts = plain_parts g.K.Kind.extra_of c.args.parts in
+    let x = c.davio_high.new.self in
+    let first = plain g.K.Kind.extra_of c.in_ok-low.low in
+    let second = plain g.K.Kind.extra_of c.in_ok-high.high in
+    let some = some_parts k v level parts c.requires.parts in
+    steps_can_join k v w x (product_work v.letters level some.first some.second) level _ _ first second c.requires.parts.within
+    (davio_low k v w level some.first some.second parts (Ok first) c.requires.davio c.requires.parts some.stand c.in_ok-low.ensures.keeps c.in_ok-low.ensures.product)
+    (davio_high_part k v w x level some.first some.second parts (Ok second) c.requires.davio some.stand c.in_ok-low.ensures.keeps c.in_ok-high.ensures.keeps c.in_ok-high.ensures.products)
+
+pub davio_product-returns-clause-keeps : goal.davio_product-returns-clause-keeps
+davio_product-returns-clause-keeps g t c =
+    keeps_on c.args.self.now c.davio_high.new.self c.join.new.self (keeps_on c.args.self.now c.mul.new.self c.davio_high.new.self c.in_ok-low.ensures.keeps c.in_ok-high.ensures.keeps) c.join.ensures.keeps
+
+pub davio_product-returns-clause-product : goal.davio_product-returns-clause-product
+davio_product-returns-clause-product g t c = λ p q s.
+    let k = g.K.Kind.NAME in
+    let v = c.args.self.now in
+    let w = c.mul.new.self in
+    let level = c.args.level in
+    let parts = plain_parts g.K.Kind.extra_of c.args.parts in
+    let x = c.davio_high.new.self in
+    let first = plain g.K.Kind.extra_of c.in_ok-low.low in
+    let second = plain g.K.Kind.extra_of c.in_ok-high.high in
+    product_answers k v w x c.join.new.self level p q parts first second _ c.requires.parts s
+    (davio_low k v w level p q parts (Ok first) c.requires.davio c.requires.parts s c.in_ok-low.ensures.keeps c.in_ok-low.ensures.product)
+    (davio_high_part k v w x level p q parts (Ok second) c.requires.davio s c.in_ok-low.ensures.keeps c.in_ok-high.ensures.keeps c.in_ok-high.ensures.products)
+    c.join.ensures.keeps c.join.ensures.join
+
+pub davio_high-returns-in_err-mixed-clause-products : goal.davio_high-returns-in_err-mixed-clause-products
+davio_high-returns-in_err-mixed-clause-products g t c = λ p q s.
+    let k = g.K.Kind.NAME in
+    let v = c.args.self.now in
+    let w = c.mixed_products.new.self in
+    let level = c.args.level in
+    let parts = plain_parts g.K.Kind.extra_of c.args.parts in
+    first_refuses k v w (product_work v.letters level p q) (level + 1) (level + 1) (high_products (letter_at v.letters level) p q) _ (plain g.K.Kind.extra_of) c.from_residual.result c.in_err-mixed.field-0.0 c.from_residual.ensures.1
+    (below_step k mixed_products v v w level p q parts (Err c.in_err-mixed.field-0.0) (keeps_itself v) c.in_err-mixed.ensures.keeps c.in_err-mixed.ensures.products s)
+
+pub davio_high-returns-in_err-high-clause-keeps : goal.davio_high-returns-in_err-high-clause-keeps
+davio_high-returns-in_err-high-clause-keeps g t c =
+    keeps_on c.args.self.now c.mixed_products.new.self c.mul.new.self c.in_ok-mixed.ensures.keeps c.in_err-high.ensures.keeps
+
+pub davio_high-returns-in_err-high-clause-products : goal.davio_high-returns-in_err-high-clause-products
+davio_high-returns-in_err-high-clause-products g t c = λ p q s.
+    let k = g.K.Kind.NAME in
+    let v = c.args.self.now in
+    let w = c.mixed_products.new.self in
+    let level = c.args.level in
+    let parts = plain_parts g.K.Kind.extra_of c.args.parts in
+    let x = c.mul.new.self in
+    let first = plain g.K.Kind.extra_of c.in_ok-mixed.mixed in
+    second_refuses k v w x (product_work v.letters level p q) (level + 1) (level + 1) (level + 1) (high_products (letter_at v.letters level) p q) _ _ (Ok first) (plain g.K.Kind.extra_of) c.from_residual-in_err-high.result c.in_err-high.field-0.0 c.from_residual-in_err-high.ensures.1
+    (below_step k mixed_products v v w level p q parts (Ok first) (keeps_itself v) c.in_ok-mixed.ensures.keeps c.in_ok-mixed.ensures.products s)
+    (davio_highs k v w x level p q parts (Err c.in_err-high.field-0.0) c.requires.davio c.requires.parts s c.in_ok-mixed.ensures.keeps c.in_err-high.ensures.keeps c.in_err-high.ensures.product)
+
+pub davio_high-add-requires-clause-a_good : goal.davio_high-add-requires-clause-a_good
+davio_high-add-requires-clause-a_good g t c = λ lives bounds.
+    let k = g.K.Kind.NAME in
+    let v = c.args.self.now in
+    let w = c.mixed_products.new.self in
+    let level = c.args.level in
+    let parts = plain_parts g.K.Kind.extra_of c.args.parts in
+    let x = c.mul.new.self in
+    let first = plain g.K.Kind.extra_of c.in_ok-mixed.mixed in
+    let second = plain g.K.Kind.extra_of c.in_ok-high.high in
+    let some = some_parts k v level parts c.requires.parts in
+    good_at k x first (level + 1) _ (first_stands k v.letters v w x (product_work v.letters level some.first some.second) (product_work v.letters level some.first some.second) (level + 1) (level + 1) _ _ first (Ok second)
+    (below_step k mixed_products v v w level some.first some.second parts (Ok first) (keeps_itself v) c.in_ok-mixed.ensures.keeps c.in_ok-mixed.ensures.products some.stand)
+    (davio_highs k v w x level some.first some.second parts (Ok second) c.requires.davio c.requires.parts some.stand c.in_ok-mixed.ensures.keeps c.in_ok-high.ensures.keeps c.in_ok-high.ensures.product))
+
+pub davio_high-add-requires-clause-b_good : goal.davio_high-add-requires-clause-b_good
+davio_high-add-requires-clause-b_good g t c = λ lives bounds.
+    let k = g.K.Kind.NAME in
+    let v = c.args.self.now in
+    let w = c.mixed_products.new.self in
+    let level = c.args.level in
+    let parts = plain_parts g.K.Kind.extra_of c.args.parts in
+    let x = c.mul.new.self in
+    let first = plain g.K.Kind.extra_of c.in_ok-mixed.mixed in
+    let second = plain g.K.Kind.extra_of c.in_ok-high.high in
+    let some = some_parts k v level parts c.requires.parts in
+    let step = davio_highs k v w x level some.first some.second parts (Ok second) c.requires.davio c.requires.parts some.stand c.in_ok-mixed.ensures.keeps c.in_ok-high.ensures.keeps c.in_ok-high.ensures.product in
+    good_at k x second (level + 1) _ step.answers.stands
+
+pub davio_high-returns-clause-keeps : goal.davio_high-returns-clause-keeps
+davio_high-returns-clause-keeps g t c =
+    keeps_on c.args.self.now c.mul.new.self c.add.new.self (keeps_on c.args.self.now c.mixed_products.new.self c.mul.new.self c.in_ok-mixed.ensures.keeps c.in_ok-high.ensures.keeps) c.add.ensures.keeps
+
+pub davio_high-returns-clause-products : goal.davio_high-returns-clause-products
+davio_high-returns-clause-products g t c = λ p q s.
+    let k = g.K.Kind.NAME in
+    let v = c.args.self.now in
+    let w = c.mixed_products.new.self in
+    let level = c.args.level in
+    let parts = plain_parts g.K.Kind.extra_of c.args.parts in
+    let x = c.mul.new.self in
+    let first = plain g.K.Kind.extra_of c.in_ok-mixed.mixed in
+    let second = plain g.K.Kind.extra_of c.in_ok-high.high in
+    let one = below_step k mixed_products v v w level p q parts (Ok first) (keeps_itself v) c.in_ok-mixed.ensures.keeps c.in_ok-mixed.ensures.products s in
+    let two = davio_highs k v w x level p q parts (Ok second) c.requires.davio c.requires.parts s c.in_ok-mixed.ensures.keeps c.in_ok-high.ensures.keeps c.in_ok-high.ensures.product in
+    last_answers k v w x c.add.new.self (product_work v.letters level p q) (level + 1) (level + 1) (level + 1) (high_products (letter_at v.letters level) p q) _ _ (Ok first) (Ok second) _ one two
+    (sum_step k v.letters x c.add.new.self (product_work v.letters level p q) (level + 1) _ _ first second _ c.add.ensures.keeps c.add.ensures.sum
+    (first_stands k v.letters v w x (product_work v.letters level p q) (product_work v.letters level p q) (level + 1) (level + 1) _ _ first (Ok second) one two) two.answers.stands (davio_at k v level p q parts c.requires.davio c.requires.parts s).high)
+
+pub mixed_products-returns-in_err-first-clause-products : goal.mixed_products-returns-in_err-first-clause-products
+mixed_products-returns-in_err-first-clause-products g t c = λ p q s.
+    let k = g.K.Kind.NAME in
+    let v = c.args.self.now in
+    let w = c.mul.new.self in
+    let level = c.args.level in
+    let parts = plain_parts g.K.Kind.extra_of c.args.parts in
+    first_refuses k v w (product_work v.letters level p q) (level + 1) (level + 1) (mixed_products (letter_at v.letters level) p q) _ (plain g.K.Kind.extra_of) c.from_residual.result c.in_err-first.field-0.0 c.from_residual.ensures.1
+    (low_by_high k v w level p q parts (Err c.in_err-first.field-0.0) c.requires.davio c.requires.parts s c.in_err-first.ensures.keeps c.in_err-first.ensures.product)
+
+pub mixed_products-returns-in_err-second-clause-keeps : goal.mixed_products-returns-in_err-second-clause-keeps
+mixed_products-returns-in_err-second-clause-keeps g t c =
+    keeps_on c.args.self.now c.mul.new.self c.mul-2.new.self c.in_ok-first.ensures.keeps c.in_err-second.ensures.keeps
+
+pub mixed_products-returns-in_err-second-clause-products : goal.mixed_products-returns-in_err-second-clause-products
+mixed_products-returns-in_err-second-clause-products g t c = λ p q s.
+    let k = g.K.Kind.NAME in
+    let v = c.args.self.now in
+    let w = c.mul.new.self in
+    let level = c.args.level in
+    let parts = plain_parts g.K.Kind.extra_of c.args.parts in
+    let x = c.mul-2.new.self in
+    let first = plain g.K.Kind.extra_of c.in_ok-first.first in
+    second_refuses k v w x (product_work v.letters level p q) (level + 1) (level + 1) (level + 1) (mixed_products (letter_at v.letters level) p q) _ _ (Ok first) (plain g.K.Kind.extra_of) c.from_residual-in_err-second.result c.in_err-second.field-0.0 c.from_residual-in_err-second.ensures.1
+    (low_by_high k v w level p q parts (Ok first) c.requires.davio c.requires.parts s c.in_ok-first.ensures.keeps c.in_ok-first.ensures.product)
+    (high_by_low k v w x level p q parts (Err c.in_err-second.field-0.0) c.requires.davio c.requires.parts s c.in_ok-first.ensures.keeps c.in_err-second.ensures.keeps c.in_err-second.ensures.product)
+
+pub mixed_products-add-requires-clause-a_good : goal.mixed_products-add-requires-clause-a_good
+mixed_products-add-requires-clause-a_good g t c = λ lives bounds.
+    let k = g.K.Kind.NAME in
+    let v = c.args.self.now in
+    let w = c.mul.new.self in
+    let level = c.args.level in
+    let parts = plain_parts g.K.Kind.extra_of c.args.parts in
+    let x = c.mul-2.new.self in
+    let first = plain g.K.Kind.extra_of c.in_ok-first.first in
+    let second = plain g.K.Kind.extra_of c.in_ok-second.second in
+    let some = some_parts k v level parts c.requires.parts in
+    good_at k x first (level + 1) _ (first_stands k v.letters v w x (product_work v.letters level some.first some.second) (product_work v.letters level some.first some.second) (level + 1) (level + 1) _ _ first (Ok second)
+    (low_by_high k v w level some.first some.second parts (Ok first) c.requires.davio c.requires.parts some.stand c.in_ok-first.ensures.keeps c.in_ok-first.ensures.product)
+    (high_by_low k v w x level some.first some.second parts (Ok second) c.requires.davio c.requires.parts some.stand c.in_ok-first.ensures.keeps c.in_ok-second.ensures.keeps c.in_ok-second.ensures.product))
+
+pub mixed_products-add-requires-clause-b_good : goal.mixed_products-add-requires-clause-b_good
+mixed_products-add-requires-clause-b_good g t c = λ lives bounds.
+    let k = g.K.Kind.NAME in
+    let v = c.args.self.now in
+    let w = c.mul.new.self in
+    let level = c.args.level in
+    let parts = plain_parts g.K.Kind.extra_of c.args.parts in
+    let x = c.mul-2.new.self in
+    let first = plain g.K.Kind.extra_of c.in_ok-first.first in
+    let second = plain g.K.Kind.extra_of c.in_ok-second.second in
+    let some = some_parts k v level parts c.requires.parts in
+    let step = high_by_low k v w x level some.first some.second parts (Ok second) c.requires.davio c.requires.parts some.stand c.in_ok-first.ensures.keeps c.in_ok-second.ensures.keeps c.in_ok-second.ensures.product in
+    good_at k x second (level + 1) _ step.answers.stands
+
+pub mixed_products-returns-clause-keeps : goal.mixed_products-returns-clause-keeps
+mixed_products-returns-clause-keeps g t c =
+    keeps_on c.args.self.now c.mul-2.new.self c.add.new.self (keeps_on c.args.self.now c.mul.new.self c.mul-2.new.self c.in_ok-first.ensures.keeps c.in_ok-second.ensures.keeps) c.add.ensures.keeps
+
+pub mixed_products-returns-clause-products : goal.mixed_products-returns-clause-products
+mixed_products-returns-clause-products g t c = λ p q s.
+    let k = g.K.Kind.NAME in
+    let v = c.args.self.now in
+    let w = c.mul.new.self in
+    let level = c.args.level in
+    let parts = plain_parts g.K.Kind.extra_of c.args.parts in
+    let x = c.mul-2.new.self in
+    let first = plain g.K.Kind.extra_of c.in_ok-first.first in
+    let second = plain g.K.Kind.extra_of c.in_ok-second.second in
+    let one = low_by_high k v w level p q parts (Ok first) c.requires.davio c.requires.parts s c.in_ok-first.ensures.keeps c.in_ok-first.ensures.product in
+    let two = high_by_low k v w x level p q parts (Ok second) c.requires.davio c.requires.parts s c.in_ok-first.ensures.keeps c.in_ok-second.ensures.keeps c.in_ok-second.ensures.product in
+    last_answers k v w x c.add.new.self (product_work v.letters level p q) (level + 1) (level + 1) (level + 1) (mixed_products (letter_at v.letters level) p q) _ _ (Ok first) (Ok second) _ one two
+    (sum_step k v.letters x c.add.new.self (product_work v.letters level p q) (level + 1) _ _ first second _ c.add.ensures.keeps c.add.ensures.sum
+    (first_stands k v.letters v w x (product_work v.letters level p q) (product_work v.letters level p q) (level + 1) (level + 1) _ _ first (Ok second) one two) two.answers.stands (davio_at k v level p q parts c.requires.davio c.requires.parts s).cross)
+
+pub davio_product-davio_high-requires-clause-parts : goal.davio_product-davio_high-requires-clause-parts
+davio_product-davio_high-requires-clause-parts g t c = λ lives bounds.
+    still_lie g.K.Kind.NAME c.args.self.now c.mul.new.self c.args.level (plain_parts g.K.Kind.extra_of c.args.parts) c.in_ok-low.ensures.keeps c.requires.parts
+
+pub davio_high-mul-requires : goal.davio_high-mul-requires
+davio_high-mul-requires g t c = λ lives bounds.
+    let k = g.K.Kind.NAME in
+    let v = c.args.self.now in
+    let w = c.mixed_products.new.self in
+    let a = plain g.K.Kind.extra_of c.args.parts.high.0 in
+    let b = plain g.K.Kind.extra_of c.args.parts.high.1 in
+    let keeps = c.in_ok-mixed.ensures.keeps in
+    let falls = falls_below k v w c.args.level 2 a b c.requires.parts.within c.requires.parts.first_high c.requires.parts.second_high keeps in
+    (subst (λ (n : ℕ). 8 * (length w.letters - min (top_of w a.node) (top_of w b.node)) + 6 < n) c.decreases falls, (bounds.0, (bounds.1.0, (bounds.1.1, (search rules, (search rules, (search rules, (search rules, (still_edge k v w a keeps c.requires.parts.first_high.good, still_edge k v w b keeps c.requires.parts.second_high.good)))))))))
+
+pub mixed_products-mul-requires-2 : goal.mixed_products-mul-requires-2
+mixed_products-mul-requires-2 g t c = λ lives bounds.
+    let k = g.K.Kind.NAME in
+    let v = c.args.self.now in
+    let w = c.mul.new.self in
+    let a = plain g.K.Kind.extra_of c.args.parts.high.0 in
+    let b = plain g.K.Kind.extra_of c.args.parts.low.1 in
+    let keeps = c.in_ok-first.ensures.keeps in
+    let falls = falls_below k v w c.args.level 1 a b c.requires.parts.within c.requires.parts.first_high c.requires.parts.second_low keeps in
+    (subst (λ (n : ℕ). 8 * (length w.letters - min (top_of w a.node) (top_of w b.node)) + 6 < n) c.decreases falls, (bounds.0, (bounds.1.0, (bounds.1.1, (search rules, (search rules, (search rules, (search rules, (still_edge k v w a keeps c.requires.parts.first_high.good, still_edge k v w b keeps c.requires.parts.second_low.good)))))))))
+
+pub shannon_product-mul-requires-2 : goal.shannon_product-mul-requires-2
+shannon_product-mul-requires-2 g t c = λ lives bounds.
+    let k = g.K.Kind.NAME in
+    let v = c.args.self.now in
+    let w = c.mul.new.self in
+    let a = plain g.K.Kind.extra_of c.args.parts.high.0 in
+    let b = plain g.K.Kind.extra_of c.args.parts.high.1 in
+    let keeps = c.in_ok-low.ensures.keeps in
+    let falls = falls_below k v w c.args.level 1 a b c.requires.parts.within c.requires.parts.first_high c.requires.parts.second_high keeps in
+    (subst (λ (n : ℕ). 8 * (length w.letters - min (top_of w a.node) (top_of w b.node)) + 6 < n) c.decreases falls, (bounds.0, (bounds.1.0, (bounds.1.1, (search rules, (search rules, (search rules, (search rules, (still_edge k v w a keeps c.requires.parts.first_high.good, still_edge k v w b keeps c.requires.parts.second_high.good)))))))))

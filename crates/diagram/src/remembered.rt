@@ -1,0 +1,57 @@
+ghost use Rattle.std.specs.Prelude.{◌≡◌, ◌↔◌, IfSome, IsTrue};
+ghost use Rattle.kind_laws.specs.Plain.{plain, constant_edge};
+ghost use Rattle.diagram.specs.Remembered.{IsResult};
+ghost use Rattle.diagram.specs.View.{IsEdge};
+ghost use Rattle.diagram.specs.declared.operation.Operation.TheVariants as operation;
+
+use crate::builder::Builder;
+use crate::operation::Operation;
+use kind_laws::{Edge, Kind};
+use record_store::Store;
+use word_base::Weight;
+
+impl<K: Kind, S: Store> Builder<K, S> {
+    /// The sum, where an operand is 0 or the sum is remembered.
+    pub(crate) fn known_sum(&self, a: Edge<K>, b: Edge<K>) -> Option<Edge<K>>
+        requires a_good { IsEdge K.NAME self.now (plain K.extra_of a) }
+        requires b_good { IsEdge K.NAME self.now (plain K.extra_of b) }
+        ensures { IfSome result (λ r. IsResult operation.Sum K.NAME self.now (plain K.extra_of a) (plain K.extra_of b) (plain K.extra_of r)) }
+    {
+        if self.is_constant(a, Weight::ZERO) {
+            return Some(b);
+        }
+        if self.is_constant(b, Weight::ZERO) {
+            return Some(a);
+        }
+        self.look_up(Operation::Sum, a, b)
+    }
+
+    /// The product, where an operand is 0 or 1 or the product is remembered.
+    pub(crate) fn known_product(&self, a: Edge<K>, b: Edge<K>) -> Option<Edge<K>>
+        requires a_good { IsEdge K.NAME self.now (plain K.extra_of a) }
+        requires b_good { IsEdge K.NAME self.now (plain K.extra_of b) }
+        ensures { IfSome result (λ r. IsResult operation.Product K.NAME self.now (plain K.extra_of a) (plain K.extra_of b) (plain K.extra_of r)) }
+    {
+        if self.is_constant(a, Weight::ZERO) {
+            return Some(a);
+        }
+        if self.is_constant(b, Weight::ZERO) {
+            return Some(b);
+        }
+        if self.is_constant(a, Weight::ONE) {
+            return Some(b);
+        }
+        if self.is_constant(b, Weight::ONE) {
+            return Some(a);
+        }
+        self.look_up(Operation::Product, a, b)
+    }
+
+    /// Whether an edge is that of a constant.
+    fn is_constant(&self, edge: Edge<K>, value: Weight) -> bool
+        requires { IsEdge K.NAME self.now (plain K.extra_of edge) }
+        ensures { IsTrue result ↔ (plain K.extra_of edge ≡ constant_edge K.NAME value) }
+    {
+        edge.node == 0 && K::value(edge) == value
+    }
+}
