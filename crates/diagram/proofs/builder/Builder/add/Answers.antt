@@ -1,9 +1,11 @@
-use Rattle.std.proofs.Common.{◌≡◌, sym, ◌∙◌, cc}
-use Rattle.kind_laws.specs.Plain.{plain, answered}
+use Rattle.std.proofs.Common.{subst}
+use Rattle.std.specs.Prelude.{Err}
+use Rattle.kind_laws.specs.Plain.{plain}
+use Rattle.diagram.specs.declared.limit.Limit.{Limit}
 use Rattle.diagram.specs.declared.limit.Limit.TheVariants as limit
 use Rattle.diagram.proofs.LevelLaws.{still_edge}
 use Rattle.diagram.proofs.StoreLaws.{keeps_on}
-use Rattle.diagram.proofs.StrippedSums.{stripped_answers, plain_answers}
+use Rattle.diagram.proofs.StrippedSums.{IsStripped, stripped_answers, plain_answers}
 use Rattle.diagram.proofs.builder.Builder.add.Goals as goal
 
 pub sum_by-requires-in-Err-Overflow-clause-a_good : goal.sum_by-requires-in-Err-Overflow-clause-a_good
@@ -21,7 +23,13 @@ returns-in-Ok-clause-sum g c =
 
 pub returns-in-Err-Full-clause-sum : goal.returns-in-Err-Full-clause-sum
 returns-in-Err-Full-clause-sum g c =
-    let h = c.in-Err-Full in ?
+    let k = g.K.Kind.NAME in
+    let v = c.args.self.now in
+    let w = c.sum_by.new.self in
+    let a = plain g.K.Kind.extra_of c.args.a in
+    let b = plain g.K.Kind.extra_of c.args.b in
+    stripped_answers k v w a b (Err limit.Full) (λ e. absurd (cc))
+    (subst (λ (e : Limit). IsStripped k v w a b (Err e)) c.in-Err-Full.field-0-is c.in-Err-Full.ensures.sum)
 
 pub returns-in-Err-Overflow-clause-keeps : goal.returns-in-Err-Overflow-clause-keeps
 returns-in-Err-Overflow-clause-keeps g c =
