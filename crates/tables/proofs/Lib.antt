@@ -10,3 +10,4 @@ pub mod Kronecker
 pub mod NodeLaws
 pub mod FitsLaws
 pub mod PieceLaws
+pub mod FactorLaws
