@@ -11,3 +11,4 @@ pub mod NodeLaws
 pub mod FitsLaws
 pub mod PieceLaws
 pub mod FactorLaws
+pub mod SummandLaws

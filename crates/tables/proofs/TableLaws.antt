@@ -6,7 +6,7 @@ use Rattle.word_base.specs.declared.decomp.Decomp.{Decomp}
 use Rattle.word_base.specs.declared.decomp.Decomp.TheVariants.{S, P, N}
 use Rattle.tables.specs.Table.{Table, entry, halves, IsOver, each, multiple, zip_with, plus, minus, times, part0, part1, merged, constant_table}
 use Rattle.tables.specs.Factors.{raised_by}
-use Rattle.tables.specs.Laws.{ProductsOfMultiples, SumsOfRaisedTables}
+use Rattle.tables.specs.Laws.{ProductsOfMultiples, RaisedTablesAreSums, SumsOfRaisedTables}
 
 -- two equations between the halves
 pub both_halves : {a b c d : Table} → a ≡ c → b ≡ d → halves a b ≡ halves c d
@@ -163,6 +163,10 @@ products_of_multiples (suc n) s r (halves a b) (halves c d) o p =
     both_halves (products_of_multiples n s r a c o.0 p.0) (products_of_multiples n s r b d o.1 p.1)
 
 -- ---- tables raised by a constant
+pub raised_tables_are_sums : RaisedTablesAreSums
+raised_tables_are_sums c (entry x) = ap entry (omega (arith, ints))
+raised_tables_are_sums c (halves lo hi) = both_halves (raised_tables_are_sums c lo) (raised_tables_are_sums c hi)
+
 minus-raised : (n : ℕ) (c : ℤ) (t u : Table) → IsOver n t → IsOver n u → minus (raised_by c t) (raised_by c u) ≡ minus t u
 minus-raised zero c (entry x) (entry y) o p = ap entry (omega (arith, ints))
 minus-raised zero c (halves a b) u o p = absurd o

@@ -14,6 +14,7 @@ use Rattle.tables.specs.Parts.{low_part, high_part}
 use Rattle.tables.specs.Meaning.{table}
 use Rattle.tables.specs.Canonical.{canonical, IsCanonical, IsNodeOf, has, add_nodes, nodes}
 use Rattle.tables.specs.Fits.{fits, content}
+use Rattle.tables.specs.Pieces.{like}
 use Rattle.tables.specs.Factors.{IsFactor, factor_of, scaled_tree, unscaled_tree, IsSummand, summand_of, shifted_tree, unshifted_tree, raised_by}
 
 -- whether the kind allows each letter
@@ -171,6 +172,10 @@ abbrev pub ProductsOfMultiples : Type 0
 ProductsOfMultiples = (n : ℕ) (s r : ℤ) (t u : Table) → IsOver n t → IsOver n u → times (multiple s t) (multiple r u) ≡ multiple s (multiple r (times t u))
 
 -- ---- summands, whatever the kind
+
+-- to raise a table by a constant is to add the constant's table
+abbrev pub RaisedTablesAreSums : Type 0
+RaisedTablesAreSums = (c : ℤ) (t : Table) → raised_by c t ≡ plus t (like t c)
 
 -- the table of a tree with a summand added is the tree's table, raised by it
 abbrev pub ShiftedTreesStand : Type 0
