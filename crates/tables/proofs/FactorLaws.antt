@@ -1,6 +1,6 @@
 -- Factors of tables and of their canonical diagrams.
-use Rattle.std.proofs.Common.{◌≡◌, refl, sym, ◌∙◌, ap, ℕ, zero, suc, ◌+◌, ◌*◌, ◌<◌, ◌≤◌, ℤ, pos, ◌+ℤ◌, ◌-ℤ◌, ◌*ℤ◌, List, [], ◌∷◌, Bool, true, false, ◌&&◌, length, arith}
-use Rattle.std.specs.Prelude.{◌≢◌, ◌^◌, negsuc, int_div, unsigned_abs, if◌then◌else◌}
+use Rattle.std.proofs.Common.{◌≡◌, refl, sym, ◌∙◌, ap, ℕ, ◌+◌, ◌*◌, ◌<◌, ◌≤◌, ℤ, pos, ◌+ℤ◌, ◌-ℤ◌, ◌*ℤ◌, List, [], ◌∷◌, Bool, true, false, ◌&&◌, arith}
+use Rattle.std.specs.Prelude.{◌≢◌, ◌^◌, int_div, unsigned_abs, if◌then◌else◌}
 use Rattle.std.specs.Ordering.{int_eq}
 use Rattle.std.proofs.lemmas.Bool.{and_from, and_parts, ltb-true, lt-ltb}
 use Rattle.std.proofs.lemmas.Bool.Decides.{Decides-int_eq, Decides-like, same_from_decides}
@@ -16,14 +16,14 @@ use Rattle.word_base.specs.declared.decomp.Decomp.{Decomp}
 use Rattle.word_base.specs.declared.decomp.Decomp.TheVariants.{S, P, N}
 use Rattle.word_base.specs.declared.kind_name.KindName.{KindName}
 use Rattle.word_base.specs.declared.kind_name.KindName.TheVariants.{Evbdd, StarBmd, Hdd, KStarBmd}
-use Rattle.tables.specs.Table.{Table, entry, halves, IsOver, each, multiple, part0, part1}
-use Rattle.tables.specs.Tree.{Weights, Shape, leaf, node, Tree, weights, tree, constant, same_shape, same, skips, star_bmd_node, k_star_bmd_node, k_star_bmd_rest, node_join, tjoin}
+use Rattle.tables.specs.Table.{Table, entry, halves, multiple, part0, part1}
+use Rattle.tables.specs.Tree.{Weights, leaf, node, Tree, weights, tree, constant, same_shape, same, skips, star_bmd_node, k_star_bmd_node, k_star_bmd_rest, node_join, tjoin}
 use Rattle.tables.specs.Meaning.{weighed, shape_table, table}
-use Rattle.tables.specs.Canonical.{canonical, IsCanonical, add_nodes, nodes}
+use Rattle.tables.specs.Canonical.{canonical, IsCanonical, add_nodes}
 use Rattle.tables.specs.Fits.{weights_in_range, difference_in_range, fits}
 use Rattle.tables.specs.Factors.{IsFactor, factor_of, scaled_weights, scaled_tree, unscaled_tree}
-use Rattle.tables.specs.Laws.{are_allowed, AreJoinable, IsSkip, ScaledTreesStand, FactorsGoThrough, MultiplesKeepNodes, FactorsFit, IsMultipleOf, FactorsAreTaken, FactorIsZero}
-use Rattle.tables.proofs.TableLaws.{each-same, each-each, times_one, part0-each, part1-multiple}
+use Rattle.tables.specs.Laws.{are_allowed, AreJoinable, IsSkip, ScaledTreesStand, FactorsGoThrough, MultiplesKeepNodes, FactorsFit, FactorsAreTaken, FactorIsZero}
+use Rattle.tables.proofs.TableLaws.{each-same, each-each, part0-each, part1-multiple}
 use Rattle.tables.proofs.TreeLaws.{chosen_of, int_eq-same, IsOver-table}
 use Rattle.tables.proofs.KindLaws.{by_joins, canonical-no_extra, with_weights}
 use Rattle.tables.proofs.Moment.{weightless}

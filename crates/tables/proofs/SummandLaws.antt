@@ -1,5 +1,5 @@
 -- Summands of tables and of their canonical diagrams.
-use Rattle.std.proofs.Common.{◌≡◌, refl, sym, ◌∙◌, ap, ℕ, suc, ◌+◌, ℤ, pos, ◌+ℤ◌, ◌-ℤ◌, ◌*ℤ◌, List, [], ◌∷◌, Bool, true, false, ◌&&◌, length, arith}
+use Rattle.std.proofs.Common.{◌≡◌, refl, sym, ◌∙◌, ap, ℕ, ◌+◌, ℤ, pos, ◌+ℤ◌, ◌-ℤ◌, ◌*ℤ◌, List, [], ◌∷◌, Bool, true, false, ◌&&◌, length, arith}
 use Rattle.std.specs.Prelude.{if◌then◌else◌}
 use Rattle.std.specs.Ordering.{int_eq}
 use Rattle.std.proofs.lemmas.Bool.{and_parts}
@@ -11,12 +11,12 @@ use Rattle.word_base.specs.declared.decomp.Decomp.{Decomp}
 use Rattle.word_base.specs.declared.decomp.Decomp.TheVariants.{S, P, N}
 use Rattle.word_base.specs.declared.kind_name.KindName.{KindName}
 use Rattle.word_base.specs.declared.kind_name.KindName.TheVariants.{Evbdd, StarBmd, Hdd, KStarBmd}
-use Rattle.tables.specs.Table.{Table, entry, halves, IsOver, part0, part1}
-use Rattle.tables.specs.Tree.{Weights, Shape, node, Tree, weights, tree, constant, same_shape, skips, k_star_bmd_node, node_join, tjoin}
+use Rattle.tables.specs.Table.{Table, entry, halves, part0, part1}
+use Rattle.tables.specs.Tree.{Weights, node, Tree, weights, tree, constant, same_shape, skips, k_star_bmd_node, node_join, tjoin}
 use Rattle.tables.specs.Meaning.{weighed, shape_table, table}
 use Rattle.tables.specs.Canonical.{canonical, add_nodes}
 use Rattle.tables.specs.Factors.{IsSummand, summand_of, shifted_weights, shifted_tree, unshifted_tree, raised_by}
-use Rattle.tables.specs.Laws.{are_allowed, ShiftedTreesStand, SummandsGoThrough, RaisedTablesKeepNodes, IsRaisedFrom, SummandsAreTaken}
+use Rattle.tables.specs.Laws.{are_allowed, ShiftedTreesStand, SummandsGoThrough, RaisedTablesKeepNodes, SummandsAreTaken}
 use Rattle.tables.proofs.TableLaws.{each-same, each-each, part0-each, part1-raised, at_high_part, IsOver-part0, IsOver-part1}
 use Rattle.tables.proofs.TreeLaws.{IsOver-table, chosen_of}
 use Rattle.tables.proofs.KindLaws.{has_extra, canonical-no_extra, with_weights}

@@ -4,7 +4,7 @@ use Rattle.std.proofs.lemmas.Int.{ints}
 use Rattle.integers.proofs.Ring.{*ℤ-distrib_sub_left, *ℤ_assoc, *ℤ_left_comm}
 use Rattle.word_base.specs.declared.decomp.Decomp.{Decomp}
 use Rattle.word_base.specs.declared.decomp.Decomp.TheVariants.{S, P, N}
-use Rattle.tables.specs.Table.{Table, entry, halves, IsOver, each, multiple, zip_with, plus, minus, times, part0, part1, merged, constant_table}
+use Rattle.tables.specs.Table.{Table, entry, halves, IsOver, each, multiple, zip_with, plus, minus, part0, part1, merged, constant_table}
 use Rattle.tables.specs.Factors.{raised_by}
 use Rattle.tables.specs.Laws.{ProductsOfMultiples, RaisedTablesAreSums, SumsOfRaisedTables}
 
