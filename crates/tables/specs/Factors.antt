@@ -95,6 +95,15 @@ raised_by c = each (λ x. c +ℤ x)
 
 -- ---- examples
 
+factor-of_evbdd : IsFactor Evbdd (pos 1)
+factor-of_evbdd = refl
+
+summand-of_star_bmd : IsSummand StarBmd (pos 0)
+summand-of_star_bmd = refl
+
+summand-of_evbdd : IsSummand Evbdd (negsuc 6)
+summand-of_evbdd = tt
+
 -- 6 - 4*f is -2 * (-3 + 2*f): the factor has the sign of the weight that multiplies
 taken-factor : factor_of KStarBmd (weights (negsuc 3) (pos 6)) ≡ negsuc 1
 taken-factor = refl

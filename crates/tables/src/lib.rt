@@ -11,6 +11,7 @@
 mod laws;
 
 pub use laws::{
-    content_laws, evbdd_is_canonical, evbdd_laws, factor_laws, fits_laws, hdd_is_canonical, hdd_laws,
-    k_star_bmd_is_canonical, k_star_bmd_laws, node_laws, star_bmd_is_canonical, star_bmd_laws, summand_laws,
+    content_laws, evbdd_is_canonical, evbdd_laws, factor_laws, fits_laws, hdd_is_canonical,
+    hdd_laws, k_star_bmd_is_canonical, k_star_bmd_laws, node_laws, star_bmd_is_canonical,
+    star_bmd_laws, summand_laws,
 };
