@@ -1,34 +1,32 @@
 -- Edges without their shifts, and with them put back: what they stand for.
-use Rattle.std.proofs.Common.{◌≡◌, refl, sym, ◌∙◌, ap, subst, ℕ, zero, suc, ℤ, pos, ◌+ℤ◌, List, true, length, drop, arith}
+use Rattle.std.proofs.Common.{◌≡◌, refl, sym, ◌∙◌, ap, subst, ℕ, ℤ, pos, ◌+ℤ◌, List, true, length, drop, arith}
 use Rattle.std.specs.Prelude.{neg_ℤ}
 use Rattle.std.proofs.lemmas.Int.{ints}
 use Rattle.word_base.specs.declared.decomp.Decomp.{Decomp}
 use Rattle.word_base.specs.declared.kind_name.KindName.{KindName}
 use Rattle.word_base.specs.declared.kind_name.KindName.TheVariants.{Evbdd, StarBmd, Hdd, KStarBmd}
 use Rattle.record_store.specs.StoreView.{find_in}
-use Rattle.tables.specs.Table.{Table, entry, halves, IsOver, each, plus}
-use Rattle.tables.specs.Tree.{Weights, Shape, Tree}
+use Rattle.tables.specs.Table.{Table, IsOver, plus}
+use Rattle.tables.specs.Tree.{Weights, Tree}
+use Rattle.tables.specs.Factors.{IsSummand, shifted_weights, shifted_tree, raised_by}
 use Rattle.tables.specs.Canonical.{canonical}
 use Rattle.tables.specs.Laws.{are_allowed}
-use Rattle.tables.proofs.TableLaws.{both_halves, IsOver-each}
+use Rattle.tables.proofs.SummandLaws.{summands_go_through}
+use Rattle.tables.proofs.TableLaws.{each-each, each-identity, sums_of_raised_tables, IsOver-each}
 use Rattle.kind_laws.specs.Graph.{HasShape}
 use Rattle.kind_laws.specs.Plain.{PlainEdge, plain_edge}
 use Rattle.kind_laws.specs.Scale.{shift_of, unshifted, MayShift, shifted}
+use Rattle.kind_laws.proofs.ScaleLaws.{shifted-keeps_node}
 use Rattle.diagram.specs.View.{View, StandsAt, IsEdge}
 use Rattle.diagram.proofs.LevelLaws.{allowed_from}
 
--- the table plus a constant
-abbrev pub raised_by : ℤ → Table → Table
-raised_by c = each (λ x. c +ℤ x)
-
-abbrev pub shifted_tree : KindName → ℤ → Tree → Tree
-shifted_tree k c t = record { root = (shifted k c (record { root = t.root; node = 0 })).root; shape = t.shape }
-
-pub canonical-raised : (k : KindName) (ds : List Decomp) (l : ℕ) (c : ℤ) (t : Table) → MayShift k c → are_allowed k ds ≡ true → IsOver (length ds) t →
-    canonical k ds l (raised_by c t) ≡ shifted_tree k c (canonical k ds l t)
-canonical-raised k ds l c t may allowed over = ?
-
 -- ---- summands of edges
+pub is_summand : (k : KindName) (c : ℤ) → MayShift k c → IsSummand k c
+is_summand Evbdd c may = tt
+is_summand StarBmd c may = may
+is_summand Hdd c may = may
+is_summand KStarBmd c may = tt
+
 pub may_lower : (k : KindName) (w : Weights) → MayShift k (neg_ℤ (shift_of k w))
 may_lower Evbdd w = tt
 may_lower StarBmd w = refl
@@ -51,16 +49,10 @@ unshifted-lowered Hdd e = refl
 unshifted-lowered KStarBmd e = ap (λ (x : ℤ). plain_edge e.root.weight x e.node) (nothing_left e.root.extra)
 
 shifted_root : (k : KindName) (c : ℤ) (e : PlainEdge) (t : Tree) → e.root ≡ t.root → (shifted k c e).root ≡ (shifted_tree k c t).root
-shifted_root Evbdd c e t h = ap (λ (w : Weights). (shifted Evbdd c (record { root = w; node = 0 })).root) h
+shifted_root Evbdd c e t h = ap (shifted_weights Evbdd c) h
 shifted_root StarBmd c e t h = h
 shifted_root Hdd c e t h = h
-shifted_root KStarBmd c e t h = ap (λ (w : Weights). (shifted KStarBmd c (record { root = w; node = 0 })).root) h
-
-same_node : (k : KindName) (c : ℤ) (e : PlainEdge) → (shifted k c e).node ≡ e.node
-same_node Evbdd c e = refl
-same_node StarBmd c e = refl
-same_node Hdd c e = refl
-same_node KStarBmd c e = refl
+shifted_root KStarBmd c e t h = ap (shifted_weights KStarBmd c) h
 
 -- ---- what they stand for
 pub shifted_stands : (k : KindName) (v : View) (l : ℕ) (c : ℤ) (t : Table) (e : PlainEdge) → MayShift k c → StandsAt k v l t e →
@@ -68,7 +60,7 @@ pub shifted_stands : (k : KindName) (v : View) (l : ℕ) (c : ℤ) (t : Table) (
 shifted_stands k v l c t e may h =
     let ds = drop l v.letters in
     let find = find_in v.store in
-    let raised = canonical-raised k ds l c t may (allowed_from k v.letters l h.allowed) h.stands.over in
+    let raised = summands_go_through k ds l c t (is_summand k c may) (allowed_from k v.letters l h.allowed) h.stands.over in
     record {
       allowed = h.allowed;
       no_zero = h.no_zero;
@@ -76,7 +68,7 @@ shifted_stands k v l c t e may h =
       stands = record {
         over = IsOver-each (length ds) (λ x. c +ℤ x) t h.stands.over;
         root_is = shifted_root k c e (canonical k ds l t) h.stands.root_is ∙ ap (λ (x : Tree). x.root) (sym raised);
-        shape_is = subst (λ (n : ℕ). HasShape k find n (canonical k ds l (raised_by c t)).shape) (sym (same_node k c e))
+        shape_is = subst (λ (n : ℕ). HasShape k find n (canonical k ds l (raised_by c t)).shape) (sym (shifted-keeps_node k c e))
             (subst (λ (x : Tree). HasShape k find e.node x.shape) (sym raised) h.stands.shape_is);
       };
     }
@@ -96,18 +88,15 @@ unshifted_good k v e h = (lowered k e h.0, unshifted_stands k v 0 h.0 e h.1)
 pub raised_shape : (k : KindName) (v : View) (l : ℕ) (c : ℤ) (t : Table) → MayShift k c → are_allowed k v.letters ≡ true → IsOver (length (drop l v.letters)) t →
     (canonical k (drop l v.letters) l (raised_by c t)).shape ≡ (canonical k (drop l v.letters) l t).shape
 raised_shape k v l c t may allowed over =
-    ap (λ (x : Tree). x.shape) (canonical-raised k (drop l v.letters) l c t may (allowed_from k v.letters l allowed) over)
+    ap (λ (x : Tree). x.shape) (summands_go_through k (drop l v.letters) l c t (is_summand k c may) (allowed_from k v.letters l allowed) over)
 
 -- ---- sums
-put_back : (c d x y : ℤ) → (c +ℤ d) +ℤ ((neg_ℤ c +ℤ x) +ℤ (neg_ℤ d +ℤ y)) ≡ x +ℤ y
-put_back c d x y = omega (arith, ints)
+put_back : (c d x : ℤ) → (c +ℤ d) +ℤ ((neg_ℤ c +ℤ neg_ℤ d) +ℤ x) ≡ x
+put_back c d x = omega (arith, ints)
 
 -- a sum of two tables is that of the tables without their shifts, plus both shifts
 pub sum_put_back : (c d : ℤ) (n : ℕ) (t u : Table) → IsOver n t → IsOver n u →
     raised_by (c +ℤ d) (plus (raised_by (neg_ℤ c) t) (raised_by (neg_ℤ d) u)) ≡ plus t u
-sum_put_back c d zero (entry x) (entry y) o p = ap entry (put_back c d x y)
-sum_put_back c d zero (halves a b) u o p = absurd o
-sum_put_back c d zero (entry x) (halves a b) o p = absurd p
-sum_put_back c d (suc n) (entry x) u o p = absurd o
-sum_put_back c d (suc n) (halves a b) (entry y) o p = absurd p
-sum_put_back c d (suc n) (halves a b) (halves e f) o p = both_halves (sum_put_back c d n a e o.0 p.0) (sum_put_back c d n b f o.1 p.1)
+sum_put_back c d n t u o p =
+    ap (raised_by (c +ℤ d)) (sums_of_raised_tables n (neg_ℤ c) (neg_ℤ d) t u o p)
+    ∙ each-each (λ x. (c +ℤ d) +ℤ x) (λ x. (neg_ℤ c +ℤ neg_ℤ d) +ℤ x) (plus t u) ∙ each-identity _ (put_back c d) (plus t u)

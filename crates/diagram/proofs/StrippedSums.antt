@@ -27,7 +27,7 @@ use Rattle.diagram.specs.declared.walk.Walk.TheVariants.{Stripping}
 use Rattle.diagram.proofs.CallLaws.{Ran, ran_nothing, ran_then, answers_then, refuses_then}
 use Rattle.diagram.proofs.JoinCauses.{no_cause}
 use Rattle.diagram.proofs.LevelLaws.{stays}
-use Rattle.diagram.proofs.ShiftLaws.{raised_by, lowered, may_lower, may_shift_both, shifted_stands, unshifted_stands, raised_shape, sum_put_back}
+use Rattle.diagram.proofs.ShiftLaws.{lowered, may_lower, may_shift_both, shifted_stands, unshifted_stands, raised_shape, sum_put_back}
 
 -- ---- the walk without shifts may overflow whatever fits
 too_large : (k : KindName) (ds : List Decomp) → fits k ds (entry (pos (2 ^ 127))) ≡ false
