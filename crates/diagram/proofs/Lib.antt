@@ -18,8 +18,10 @@ pub mod ProductCalls
 pub mod ProductLaws
 pub mod RememberedLaws
 pub mod SameLaws
+pub mod ShiftLaws
 pub mod StepLaws
 pub mod StoreLaws
+pub mod StrippedSums
 pub mod SumCalls
 pub mod SumLaws
 pub mod VariableLaws

@@ -6,10 +6,13 @@ use Rattle.word_base.specs.declared.decomp.Decomp.TheVariants.{S, P, N}
 use Rattle.word_base.specs.declared.kind_name.KindName.{KindName}
 use Rattle.tables.specs.Table.{Table, entry, halves, IsOver, plus, minus, part0, part1, merged}
 use Rattle.tables.specs.Laws.{are_allowed}
-use Rattle.tables.specs.Pieces.{pieces, add_work, join_work}
-use Rattle.tables.proofs.PieceLaws.{Covers, covers_on, covers_beside, covers_left, covers_right, covers_low, covers_high, covers_join, covers_twice}
+use Rattle.tables.specs.Pieces.{Piece, pieces, add_work, join_work}
+use Rattle.tables.proofs.PieceLaws.{Covers, covers_itself, covers_on, covers_beside, covers_left, covers_right, covers_low, covers_high, covers_join, covers_twice}
 use Rattle.tables.proofs.TableLaws.{both_halves, merged-parts, IsOver-zip_with, IsOver-part0, IsOver-part1}
+use Rattle.diagram.specs.Sums.{no_weight, sum_work}
 use Rattle.diagram.specs.View.{View, letter_at}
+use Rattle.diagram.specs.declared.walk.Walk.{Walk}
+use Rattle.diagram.specs.declared.walk.Walk.TheVariants.{Stripping, Plain}
 use Rattle.diagram.proofs.CallLaws.{BothByHalves}
 use Rattle.diagram.proofs.LevelLaws.{has_letter}
 
@@ -49,30 +52,52 @@ covers_three k ds l m a b c x y z p q r =
     covers_beside k ds (pieces l (a ∷ [])) (pieces l (b ∷ c ∷ [])) (pieces m (x ∷ [])) (pieces m (y ∷ z ∷ [])) p
     (covers_beside k ds (pieces l (b ∷ [])) (pieces l (c ∷ [])) (pieces m (y ∷ [])) (pieces m (z ∷ [])) q r)
 
-pub add_by_halves : (k : KindName) (v : View) → are_allowed k v.letters ≡ true → BothByHalves k v plus add_work
-add_by_halves k v allowed = record {
+-- ---- both walks
+-- what is covered by the work of a sum is so by that of a walk
+pub walk_covers : (walk : Walk) (k : KindName) (ds : List Decomp) (l m : ℕ) (a b x y : Table) → Covers k ds (add_work l a b) (add_work m x y) →
+    Covers k ds (sum_work walk l a b) (sum_work walk m x y)
+walk_covers Stripping k ds l m a b x y c =
+    covers_beside k ds (no_weight ∷ []) (add_work l a b) (no_weight ∷ []) (add_work m x y) (covers_itself k ds (no_weight ∷ [])) c
+walk_covers Plain k ds l m a b x y c = c
+
+walk_covers_work : (walk : Walk) (k : KindName) (ds : List Decomp) (l : ℕ) (t u : Table) → Covers k ds (sum_work walk l t u) (add_work l t u)
+walk_covers_work Stripping k ds l t u = covers_right k ds (no_weight ∷ []) (add_work l t u)
+walk_covers_work Plain k ds l t u = covers_itself k ds (add_work l t u)
+
+pub sum_by_halves : (walk : Walk) (k : KindName) (v : View) → are_allowed k v.letters ≡ true → BothByHalves k v plus (sum_work walk)
+sum_by_halves walk k v allowed = record {
   by_halves = λ t u. refl;
   covers = λ l t u within o r.
       let n = length (drop (l + 1) v.letters) in
       let d = letter_at v.letters l in
       let letter = has_letter k v l allowed within in
-      covers_three k v.letters l (l + 1) _ _ _ t u (plus t u) (covers_twice k v.letters l d t letter o) (covers_twice k v.letters l d u letter r)
-      (covers_twice k v.letters l d (plus t u) letter (IsOver-zip_with n (λ x y. x +ℤ y) t u o r));
+      walk_covers walk k v.letters l (l + 1) (halves t t) (halves u u) t u
+      (covers_three k v.letters l (l + 1) _ _ _ t u (plus t u) (covers_twice k v.letters l d t letter o) (covers_twice k v.letters l d u letter r)
+      (covers_twice k v.letters l d (plus t u) letter (IsOver-zip_with n (λ x y. x +ℤ y) t u o r)));
 }
 
+-- the work of a walk covers the sum, and the operands
+pub sum_covers_sum : (walk : Walk) (k : KindName) (ds : List Decomp) (l : ℕ) (t u : Table) → Covers k ds (sum_work walk l t u) (pieces l (plus t u ∷ []))
+sum_covers_sum walk k ds l t u =
+    covers_on k ds _ (add_work l t u) _ (walk_covers_work walk k ds l t u) (covers_right k ds (pieces l (t ∷ u ∷ [])) (pieces l (plus t u ∷ [])))
+
+pub sum_covers_operands : (walk : Walk) (k : KindName) (ds : List Decomp) (l : ℕ) (t u : Table) → Covers k ds (sum_work walk l t u) (pieces l (t ∷ u ∷ []))
+sum_covers_operands walk k ds l t u =
+    covers_on k ds _ (add_work l t u) _ (walk_covers_work walk k ds l t u) (covers_left k ds (pieces l (t ∷ u ∷ [])) (pieces l (plus t u ∷ [])))
+
 -- ---- the sums of the parts, and their join
-pub record SumCovers (k : KindName) (v : View) (l : ℕ) (t u : Table) : Type 0 where
-  pub low : Covers k v.letters (add_work l t u) (add_work (l + 1) (part0 (letter_at v.letters l) t) (part0 (letter_at v.letters l) u))
-  pub high : Covers k v.letters (add_work l t u) (add_work (l + 1) (part1 (letter_at v.letters l) t) (part1 (letter_at v.letters l) u))
-  pub join : Covers k v.letters (add_work l t u)
+pub record SumCovers (walk : Walk) (k : KindName) (v : View) (l : ℕ) (t u : Table) : Type 0 where
+  pub low : Covers k v.letters (sum_work walk l t u) (sum_work walk (l + 1) (part0 (letter_at v.letters l) t) (part0 (letter_at v.letters l) u))
+  pub high : Covers k v.letters (sum_work walk l t u) (sum_work walk (l + 1) (part1 (letter_at v.letters l) t) (part1 (letter_at v.letters l) u))
+  pub join : Covers k v.letters (sum_work walk l t u)
       (join_work (letter_at v.letters l) l (plus (part0 (letter_at v.letters l) t) (part0 (letter_at v.letters l) u))
       (plus (part1 (letter_at v.letters l) t) (part1 (letter_at v.letters l) u)))
   pub merges : merged (letter_at v.letters l) (plus (part0 (letter_at v.letters l) t) (part0 (letter_at v.letters l) u))
       (plus (part1 (letter_at v.letters l) t) (part1 (letter_at v.letters l) u)) ≡ plus t u
 
-pub sum_covers : (k : KindName) (v : View) (l : ℕ) (t u : Table) → are_allowed k v.letters ≡ true → l < length v.letters →
-    IsOver (length (drop l v.letters)) t → IsOver (length (drop l v.letters)) u → SumCovers k v l t u
-sum_covers k v l t u allowed within over_t over_u =
+pub sum_covers : (walk : Walk) (k : KindName) (v : View) (l : ℕ) (t u : Table) → are_allowed k v.letters ≡ true → l < length v.letters →
+    IsOver (length (drop l v.letters)) t → IsOver (length (drop l v.letters)) u → SumCovers walk k v l t u
+sum_covers walk k v l t u allowed within over_t over_u =
     let d = letter_at v.letters l in
     let ds = drop (l + 1) v.letters in
     let n = length ds in
@@ -90,17 +115,13 @@ sum_covers k v l t u allowed within over_t over_u =
     ap (λ (x : Table). merged d x q) (sym low_sum) ∙ ap (merged d (part0 d (plus t u))) (sym high_sum) ∙ merged-parts n d (plus t u) s in
     let Low : Table → Type 0 = λ x. Covers k v.letters (pieces l (plus t u ∷ [])) (pieces (l + 1) (x ∷ [])) in
     record {
-      low = covers_three k v.letters l (l + 1) t u (plus t u) (part0 d t) (part0 d u) p (covers_low k v.letters l d t letter o) (covers_low k v.letters l d u letter r)
-          (subst Low low_sum (covers_low k v.letters l d (plus t u) letter s));
-      high = covers_three k v.letters l (l + 1) t u (plus t u) (part1 d t) (part1 d u) q (covers_high k v.letters l d t letter o) (covers_high k v.letters l d u letter r)
-          (subst Low high_sum (covers_high k v.letters l d (plus t u) letter s));
-      join = covers_on k v.letters (add_work l t u) (pieces l (plus t u ∷ [])) _ (covers_right k v.letters (pieces l (t ∷ u ∷ [])) (pieces l (plus t u ∷ [])))
+      low = walk_covers walk k v.letters l (l + 1) t u (part0 d t) (part0 d u)
+          (covers_three k v.letters l (l + 1) t u (plus t u) (part0 d t) (part0 d u) p (covers_low k v.letters l d t letter o) (covers_low k v.letters l d u letter r)
+          (subst Low low_sum (covers_low k v.letters l d (plus t u) letter s)));
+      high = walk_covers walk k v.letters l (l + 1) t u (part1 d t) (part1 d u)
+          (covers_three k v.letters l (l + 1) t u (plus t u) (part1 d t) (part1 d u) q (covers_high k v.letters l d t letter o) (covers_high k v.letters l d u letter r)
+          (subst Low high_sum (covers_high k v.letters l d (plus t u) letter s)));
+      join = covers_on k v.letters (sum_work walk l t u) (pieces l (plus t u ∷ [])) _ (sum_covers_sum walk k v.letters l t u)
           (covers_join k v.letters l d p q (plus t u) letter over_p over_q merges);
       merges = merges;
     }
-
-pub sum_covers_sum : (k : KindName) (ds : List Decomp) (l : ℕ) (t u : Table) → Covers k ds (add_work l t u) (pieces l (plus t u ∷ []))
-sum_covers_sum k ds l t u = covers_right k ds (pieces l (t ∷ u ∷ [])) (pieces l (plus t u ∷ []))
-
-pub sum_covers_operands : (k : KindName) (ds : List Decomp) (l : ℕ) (t u : Table) → Covers k ds (add_work l t u) (pieces l (t ∷ u ∷ []))
-sum_covers_operands k ds l t u = covers_left k ds (pieces l (t ∷ u ∷ [])) (pieces l (plus t u ∷ []))

@@ -6,5 +6,6 @@ pub mod Contents
 pub mod Inside
 pub mod Products
 pub mod Remembered
+pub mod Sums
 pub mod Totals
 pub mod View

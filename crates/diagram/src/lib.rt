@@ -16,6 +16,7 @@ mod remembered;
 mod sum;
 #[cfg(test)]
 mod tests;
+mod walk;
 
 pub use builder::Builder;
 pub use limit::Limit;

@@ -3,18 +3,20 @@ ghost use Rattle.tables.specs.Table.{plus};
 ghost use Rattle.tables.specs.Pieces.{add_work};
 ghost use Rattle.kind_laws.specs.Plain.{plain, answered};
 ghost use Rattle.diagram.specs.Calls.{IsOfBoth, IsOfParts, LieBelow, plain_parts};
+ghost use Rattle.diagram.specs.Sums.{sum_work};
 ghost use Rattle.diagram.specs.View.{View, IsEdge, Keeps};
+ghost use Rattle.diagram.specs.declared.walk.Walk.TheVariants as by;
 
 use crate::builder::Builder;
 use crate::limit::Limit;
 use crate::operation::Operation;
 use crate::parts::{Parts, are_constants};
+use crate::walk::Walk;
 use kind_laws::{Edge, Kind};
 use record_store::Store;
 
 impl<K: Kind, S: Store> Builder<K, S> {
     /// The sum, entry by entry.
-    #[cycle(sum)]
     pub fn add(&mut self, a: Edge<K>, b: Edge<K>) -> Result<Edge<K>, Limit>
         requires a_good { IsEdge K.NAME self.old (plain K.extra_of a) }
         requires b_good { IsEdge K.NAME self.old (plain K.extra_of b) }
@@ -22,42 +24,91 @@ impl<K: Kind, S: Store> Builder<K, S> {
         ensures sum { IsOfBoth plus add_work K.NAME self.old self.new (plain K.extra_of a) (plain K.extra_of b)
             (answered (plain K.extra_of) result) }
     {
+        match self.sum_by(Walk::Stripping, a, b) {
+            Ok(sum) => Ok(sum),
+            Err(Limit::Full) => Err(Limit::Full),
+            Err(Limit::Overflow) => self.sum_by(Walk::Plain, a, b),
+        }
+    }
+
+    /// The sum by a walk.
+    #[cycle(sum)]
+    fn sum_by(&mut self, walk: Walk, a: Edge<K>, b: Edge<K>) -> Result<Edge<K>, Limit>
+        requires a_good { IsEdge K.NAME self.old (plain K.extra_of a) }
+        requires b_good { IsEdge K.NAME self.old (plain K.extra_of b) }
+        ensures keeps { Keeps self.old self.new }
+        ensures sum { IsOfBoth plus (sum_work walk) K.NAME self.old self.new (plain K.extra_of a) (plain K.extra_of b)
+            (answered (plain K.extra_of) result) }
+    {
         if are_constants(a, b) {
             return self.constant_of(K::value(a).add(K::value(b)));
         }
+        match walk {
+            Walk::Stripping => self.sum_of_rests(a, b),
+            Walk::Plain => self.sum_of(walk, a, b),
+        }
+    }
+
+    /// The sum of two edges, by that of what is left without their shifts.
+    #[cycle(sum)]
+    fn sum_of_rests(&mut self, a: Edge<K>, b: Edge<K>) -> Result<Edge<K>, Limit>
+        requires a_good { IsEdge K.NAME self.old (plain K.extra_of a) }
+        requires b_good { IsEdge K.NAME self.old (plain K.extra_of b) }
+        requires some_node { (a.node ≡ 0) × (b.node ≡ 0) → ⊥ }
+        ensures keeps { Keeps self.old self.new }
+        ensures sum { IsOfBoth plus (sum_work by.Stripping) K.NAME self.old self.new (plain K.extra_of a) (plain K.extra_of b)
+            (answered (plain K.extra_of) result) }
+    {
+        let (first_shift, first) = K::take_shift(a);
+        let (second_shift, second) = K::take_shift(b);
+        let shift = first_shift.add(second_shift)?;
+        let rest = self.sum_of(Walk::Stripping, first, second)?;
+        Ok(K::put_shift(shift, rest)?)
+    }
+
+    /// The sum of two edges that are not both constants', remembered.
+    #[cycle(sum)]
+    fn sum_of(&mut self, walk: Walk, a: Edge<K>, b: Edge<K>) -> Result<Edge<K>, Limit>
+        requires a_good { IsEdge K.NAME self.old (plain K.extra_of a) }
+        requires b_good { IsEdge K.NAME self.old (plain K.extra_of b) }
+        requires some_node { (a.node ≡ 0) × (b.node ≡ 0) → ⊥ }
+        ensures keeps { Keeps self.old self.new }
+        ensures sum { IsOfBoth plus (sum_work walk) K.NAME self.old self.new (plain K.extra_of a) (plain K.extra_of b)
+            (answered (plain K.extra_of) result) }
+    {
         if let Some(sum) = self.known_sum(a, b) {
             return Ok(sum);
         }
-        let sum = self.add_anew(a, b)?;
+        let sum = self.sum_anew(walk, a, b)?;
         self.remember(Operation::Sum, a, b, sum);
         Ok(sum)
     }
 
     /// The sum of two edges that are not both constants', by their parts.
     #[cycle(sum)]
-    fn add_anew(&mut self, a: Edge<K>, b: Edge<K>) -> Result<Edge<K>, Limit>
+    fn sum_anew(&mut self, walk: Walk, a: Edge<K>, b: Edge<K>) -> Result<Edge<K>, Limit>
         requires a_good { IsEdge K.NAME self.old (plain K.extra_of a) }
         requires b_good { IsEdge K.NAME self.old (plain K.extra_of b) }
         requires some_node { (a.node ≡ 0) × (b.node ≡ 0) → ⊥ }
         ensures keeps { Keeps self.old self.new }
-        ensures sum { IsOfBoth plus add_work K.NAME self.old self.new (plain K.extra_of a) (plain K.extra_of b)
+        ensures sum { IsOfBoth plus (sum_work walk) K.NAME self.old self.new (plain K.extra_of a) (plain K.extra_of b)
             (answered (plain K.extra_of) result) }
     {
         let level = self.upper(a, b);
         let parts = self.parts_of_both(a, b, level)?;
-        self.add_at(level, parts)
+        self.sum_at(walk, level, parts)
     }
 
     /// The sum of two edges, of their parts at a level.
     #[cycle(sum)]
-    fn add_at(&mut self, level: u16, parts: Parts<K>) -> Result<Edge<K>, Limit>
+    fn sum_at(&mut self, walk: Walk, level: u16, parts: Parts<K>) -> Result<Edge<K>, Limit>
         requires { LieBelow K.NAME self.old level (plain_parts K.extra_of parts) }
         ensures keeps { Keeps self.old self.new }
-        ensures sum { IsOfParts plus add_work K.NAME self.old self.new level (plain_parts K.extra_of parts)
+        ensures sum { IsOfParts plus (sum_work walk) K.NAME self.old self.new level (plain_parts K.extra_of parts)
             (answered (plain K.extra_of) result) }
     {
-        let low = self.add(parts.low.0, parts.low.1)?;
-        let high = self.add(parts.high.0, parts.high.1)?;
+        let low = self.sum_by(walk, parts.low.0, parts.low.1)?;
+        let high = self.sum_by(walk, parts.high.0, parts.high.1)?;
         self.join(level, low, high)
     }
 }

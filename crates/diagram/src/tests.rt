@@ -176,6 +176,80 @@ fn a_store_of_one_node_is_full(rt: HostRuntime) -> Result<(), Fail> {
     )
 }
 
+/// The sum of `a.0 + a.1*x` and `b.0 + b.1*x`.
+fn sum_of_lines<K: Kind>(
+    rt: &impl Abort,
+    builder: &mut Builder<K, SoloStore>,
+    a: (Weight, Weight),
+    b: (Weight, Weight),
+) -> Result<Edge<K>, Limit> {
+    let first_shift = Term::Constant(a.0);
+    let first_multiple = Term::Multiple(a.1, &X);
+    let second_shift = Term::Constant(b.0);
+    let second_multiple = Term::Multiple(b.1, &X);
+    let first = Term::Sum(&first_shift, &first_multiple);
+    let second = Term::Sum(&second_shift, &second_multiple);
+    Term::Sum(&first, &second).edge(rt, builder)
+}
+
+/// Sums of which the shifts are at the ends of the range.
+fn check_lines<K: Kind>(rt: &impl Abort, builder: &mut Builder<K, SoloStore>) -> Result<(), Fail> {
+    let most = Weight::MAX;
+    let least = most.neg();
+    let zero = Weight::ZERO;
+    let one = Weight::ONE;
+    let fitting = [
+        (least, most, most, least),
+        (least, one, most, one),
+        (most, least, least, one),
+        (least, most, zero, one.neg()),
+    ];
+    for (a, b, c, d) in fitting {
+        let sum = sum_of_lines(rt, builder, (a, b), (c, d))?;
+        let expected = sum_of_lines(rt, builder, (a.add(c)?, b.add(d)?), (zero, zero))?;
+        assert!(rt; builder.same(sum, expected));
+    }
+    let unfit = [
+        (most, zero, one, zero),
+        (least, most, zero, most),
+        (most, least, one, zero),
+    ];
+    for (a, b, c, d) in unfit {
+        let sum = sum_of_lines(rt, builder, (a, b), (c, d));
+        assert!(rt; matches!(sum, Err(Limit::Overflow)));
+    }
+    Ok(())
+}
+
+/// The entries `-m`, `-m + 1`, `-2` and `m - 1`, of which the last one is out of range without the first.
+fn check_far_entries<K: Kind>(
+    rt: &impl Abort,
+    builder: &mut Builder<K, SoloStore>,
+) -> Result<(), Fail> {
+    let first = Term::Constant(Weight::MAX.neg());
+    let step = Term::Multiple(Weight::MAX.sub(Weight::TWO)?, &X);
+    let line = Term::Sum(&first, &step);
+    let product = Term::Product(&X, &Y);
+    let last = Term::Multiple(Weight::MAX, &product);
+    let before = Term::Sum(&line, &last);
+    let after = Term::Sum(&line, &Y);
+    assert!(rt; are_same(rt, builder, &Term::Sum(&before, &Y), &Term::Sum(&after, &last))?);
+    Ok(())
+}
+
+#[test]
+fn sums_at_the_ends_of_the_range(rt: HostRuntime) -> Result<(), Fail> {
+    let evbdd = &mut two_levels::<Evbdd>(rt.alloc(), &SHANNON, 100, 4)?;
+    check_lines(&rt, evbdd)?;
+    check_far_entries(&rt, evbdd)?;
+    for letter in [Decomp::S, Decomp::P] {
+        let k_star_bmd = &mut two_levels::<KStarBmd>(rt.alloc(), &[letter, letter], 100, 4)?;
+        check_lines(&rt, k_star_bmd)?;
+        check_far_entries(&rt, k_star_bmd)?;
+    }
+    Ok(())
+}
+
 /// The parts of an edge at a level that is not below its node.
 fn parts_at<K: Kind>(
     rt: &impl Abort,

@@ -129,6 +129,15 @@ node_join-no_extra KStarBmd d l low high h = absurd (cc)
 pub no_extra : (k : KindName) → has_extra k ≡ false → (ds : List Decomp) (l : ℕ) (t : Tree) → are_allowed k ds ≡ true → IsCanonical k ds l t → t.root.extra ≡ pos 0
 no_extra k h = by_joins k (λ t. t.root.extra ≡ pos 0) (λ c. constant-no_extra k c h) (λ d ds l low high j p q s. node_join-no_extra k d l low high h)
 
+pub canonical-no_extra : (k : KindName) → has_extra k ≡ false → (ds : List Decomp) (l : ℕ) (t : Table) → (canonical k ds l t).root.extra ≡ pos 0
+canonical-no_extra k h ds l (entry x) = constant-no_extra k x h
+canonical-no_extra k h [] l (halves lo hi) = constant-no_extra k (pos 0) h
+canonical-no_extra k h (d ∷ ds) l (halves lo hi) =
+    let low = canonical k ds (l + 1) (part0 d (halves lo hi)) in
+    let high = canonical k ds (l + 1) (part1 d (halves lo hi)) in
+    chosen (λ t. t.root.extra ≡ pos 0) (skips k d low high) low (node_join k d l low high)
+    (λ s. canonical-no_extra k h ds (l + 1) (part0 d (halves lo hi))) (λ s. node_join-no_extra k d l low high h)
+
 -- a tree from its two weights, however they are written
 pub with_weights : (t : Tree) (w e : ℤ) → w ≡ t.root.weight → e ≡ t.root.extra → tree w e t.shape ≡ t
 with_weights t w e p q = ap (λ (x : ℤ). tree x e t.shape) p ∙ ap (λ (y : ℤ). tree t.root.weight y t.shape) q

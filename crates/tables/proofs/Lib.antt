@@ -10,3 +10,5 @@ pub mod Kronecker
 pub mod NodeLaws
 pub mod FitsLaws
 pub mod PieceLaws
+pub mod FactorLaws
+pub mod SummandLaws

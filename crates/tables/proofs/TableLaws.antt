@@ -1,9 +1,12 @@
--- Laws of tables: sums and differences, functions of entries, and parts.
+-- Laws of tables: sums and differences, functions of entries, parts, multiples, and tables raised by a constant.
 use Rattle.std.proofs.Common.{◌≡◌, refl, sym, ◌∙◌, ap, ℕ, zero, suc, ℤ, pos, ◌+ℤ◌, ◌-ℤ◌, ◌*ℤ◌, arith}
 use Rattle.std.proofs.lemmas.Int.{ints}
+use Rattle.integers.proofs.Ring.{*ℤ-distrib_sub_left, *ℤ_assoc, *ℤ_left_comm}
 use Rattle.word_base.specs.declared.decomp.Decomp.{Decomp}
 use Rattle.word_base.specs.declared.decomp.Decomp.TheVariants.{S, P, N}
 use Rattle.tables.specs.Table.{Table, entry, halves, IsOver, each, multiple, zip_with, plus, minus, part0, part1, merged, constant_table}
+use Rattle.tables.specs.Factors.{raised_by}
+use Rattle.tables.specs.Laws.{ProductsOfMultiples, RaisedTablesAreSums, SumsOfRaisedTables}
 
 -- two equations between the halves
 pub both_halves : {a b c d : Table} → a ≡ c → b ≡ d → halves a b ≡ halves c d
@@ -130,3 +133,60 @@ pub each-merged : (n : ℕ) (d : Decomp) (f g : ℤ → ℤ) → ((x y : ℤ) �
 each-merged n S f g h p q o r = refl
 each-merged n P f g h p q o r = both_halves refl (each-plus n f g h p q o r)
 each-merged n N f g h p q o r = both_halves (each-plus n f g h p q o r) refl
+
+-- ---- multiples
+pub part0-each : (d : Decomp) (f : ℤ → ℤ) (t : Table) → part0 d (each f t) ≡ each f (part0 d t)
+part0-each d f (entry x) = refl
+part0-each S f (halves lo hi) = refl
+part0-each P f (halves lo hi) = refl
+part0-each N f (halves lo hi) = refl
+
+minus-multiple : (s : ℤ) (t u : Table) → minus (multiple s t) (multiple s u) ≡ multiple s (minus t u)
+minus-multiple s (entry x) (entry y) = ap entry (sym (*ℤ-distrib_sub_left s x y))
+minus-multiple s (entry x) (halves c d) = refl
+minus-multiple s (halves a b) (entry y) = refl
+minus-multiple s (halves a b) (halves c d) = both_halves (minus-multiple s a c) (minus-multiple s b d)
+
+pub part1-multiple : (d : Decomp) (s : ℤ) (t : Table) → part1 d (multiple s t) ≡ multiple s (part1 d t)
+part1-multiple d s (entry x) = refl
+part1-multiple S s (halves lo hi) = refl
+part1-multiple P s (halves lo hi) = minus-multiple s hi lo
+part1-multiple N s (halves lo hi) = minus-multiple s lo hi
+
+pub products_of_multiples : ProductsOfMultiples
+products_of_multiples zero s r (entry x) (entry y) o p = ap entry (*ℤ_assoc s x (r *ℤ y) ∙ ap (λ (z : ℤ). s *ℤ z) (*ℤ_left_comm x r y))
+products_of_multiples zero s r (halves a b) u o p = absurd o
+products_of_multiples zero s r (entry x) (halves c d) o p = absurd p
+products_of_multiples (suc n) s r (entry x) u o p = absurd o
+products_of_multiples (suc n) s r (halves a b) (entry y) o p = absurd p
+products_of_multiples (suc n) s r (halves a b) (halves c d) o p =
+    both_halves (products_of_multiples n s r a c o.0 p.0) (products_of_multiples n s r b d o.1 p.1)
+
+-- ---- tables raised by a constant
+pub raised_tables_are_sums : RaisedTablesAreSums
+raised_tables_are_sums c (entry x) = ap entry (omega (arith, ints))
+raised_tables_are_sums c (halves lo hi) = both_halves (raised_tables_are_sums c lo) (raised_tables_are_sums c hi)
+
+minus-raised : (n : ℕ) (c : ℤ) (t u : Table) → IsOver n t → IsOver n u → minus (raised_by c t) (raised_by c u) ≡ minus t u
+minus-raised zero c (entry x) (entry y) o p = ap entry (omega (arith, ints))
+minus-raised zero c (halves a b) u o p = absurd o
+minus-raised zero c (entry x) (halves e f) o p = absurd p
+minus-raised (suc n) c (entry x) u o p = absurd o
+minus-raised (suc n) c (halves a b) (entry y) o p = absurd p
+minus-raised (suc n) c (halves a b) (halves e f) o p = both_halves (minus-raised n c a e o.0 p.0) (minus-raised n c b f o.1 p.1)
+
+-- what is added to both halves is no part of their difference
+pub part1-raised : (n : ℕ) (d : Decomp) (c : ℤ) (t : Table) → IsOver (suc n) t → part1 d (raised_by c t) ≡ at_high_part d (raised_by c (part1 d t)) (part1 d t)
+part1-raised n d c (entry x) o = absurd o
+part1-raised n S c (halves lo hi) o = refl
+part1-raised n P c (halves lo hi) o = minus-raised n c hi lo o.1 o.0
+part1-raised n N c (halves lo hi) o = minus-raised n c lo hi o.0 o.1
+
+pub sums_of_raised_tables : SumsOfRaisedTables
+sums_of_raised_tables zero c e (entry x) (entry y) o p = ap entry (omega (arith, ints))
+sums_of_raised_tables zero c e (halves a b) u o p = absurd o
+sums_of_raised_tables zero c e (entry x) (halves f g) o p = absurd p
+sums_of_raised_tables (suc n) c e (entry x) u o p = absurd o
+sums_of_raised_tables (suc n) c e (halves a b) (entry y) o p = absurd p
+sums_of_raised_tables (suc n) c e (halves a b) (halves f g) o p =
+    both_halves (sums_of_raised_tables n c e a f o.0 p.0) (sums_of_raised_tables n c e b g o.1 p.1)

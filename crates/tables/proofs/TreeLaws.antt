@@ -20,6 +20,11 @@ pub chosen : {A : Type 0} (Has : A → Type 0) (b : Bool) (x y : A) → (b ≡ t
 chosen Has true x y p q = p refl
 chosen Has false x y p q = q refl
 
+-- a function of a choice
+pub chosen_of : {A B : Type 0} (f : A → B) (b : Bool) (x y : A) → (if b then f x else f y) ≡ f (if b then x else y)
+chosen_of f true x y = refl
+chosen_of f false x y = refl
+
 pub int_eq-same : (x y : ℤ) → int_eq x y ≡ true → x ≡ y
 int_eq-same x y h = (Decides-int_eq x y).0 h
 

@@ -1,18 +1,21 @@
 -- The laws of a kind, on trees with unbounded weights, and that its canonical diagrams are canonical; and what holds of
--- lists of nodes, of content, and of tables that fit. What a run answers and when it meets a limit is defined without them.
-use Rattle.std.specs.Prelude.{◌≡◌, ℕ, suc, ◌+◌, ℤ, pos, List, [], ◌∷◌, Bool, true, ◌&&◌, ◌⊎◌, ◌↔◌, length}
+-- lists of nodes, of content, of tables that fit, and of factors and summands. What a run answers and when it meets a limit
+-- is defined without them.
+use Rattle.std.specs.Prelude.{◌≡◌, ◌≢◌, ℕ, suc, ◌+◌, ℤ, pos, ◌+ℤ◌, List, [], ◌∷◌, Bool, true, ◌&&◌, ◌⊎◌, ◌↔◌, length}
 use Rattle.std.specs.List.{IsDistinct}
 use Rattle.integers.specs.Gcd.{gcd}
 use Rattle.word_base.specs.Kind.{is_allowed}
 use Rattle.word_base.specs.declared.decomp.Decomp.{Decomp}
 use Rattle.word_base.specs.declared.decomp.Decomp.TheVariants.{S, P, N}
 use Rattle.word_base.specs.declared.kind_name.KindName.{KindName}
-use Rattle.tables.specs.Table.{Table, IsOver, part0, part1, constant_table}
+use Rattle.tables.specs.Table.{Table, IsOver, plus, times, multiple, part0, part1, constant_table}
 use Rattle.tables.specs.Tree.{Shape, leaf, Tree, constant, same_shape, tjoin}
 use Rattle.tables.specs.Parts.{low_part, high_part}
 use Rattle.tables.specs.Meaning.{table}
-use Rattle.tables.specs.Canonical.{canonical, IsCanonical, IsNodeOf, has, add_nodes}
+use Rattle.tables.specs.Canonical.{canonical, IsCanonical, IsNodeOf, has, add_nodes, nodes}
 use Rattle.tables.specs.Fits.{fits, content}
+use Rattle.tables.specs.Pieces.{like}
+use Rattle.tables.specs.Factors.{IsFactor, factor_of, scaled_tree, unscaled_tree, IsSummand, summand_of, shifted_tree, unshifted_tree, raised_by}
 
 -- whether the kind allows each letter
 abbrev pub are_allowed : KindName → List Decomp → Bool
@@ -125,3 +128,83 @@ ContentOfParts = (d : Decomp) (n : ℕ) (t : Table) → IsOver (suc n) t → con
 -- a table that fits has parts that fit
 abbrev pub FitsParts : KindName → Type 0
 FitsParts k = (d : Decomp) (ds : List Decomp) (t : Table) → fits k (d ∷ ds) t ≡ true → (fits k ds (part0 d t) ≡ true) × (fits k ds (part1 d t) ≡ true)
+
+-- ---- factors, whatever the kind
+
+-- the table of a tree times a factor is the multiple of the tree's table
+abbrev pub ScaledTreesStand : Type 0
+ScaledTreesStand = (k : KindName) (ds : List Decomp) (l : ℕ) (s : ℤ) (t : Tree) → IsFactor k s → table k ds l (scaled_tree k s t) ≡ multiple s (table k ds l t)
+
+-- the canonical diagram of a multiple is the table's, times the factor
+abbrev pub FactorsGoThrough : Type 0
+FactorsGoThrough = (k : KindName) (ds : List Decomp) (l : ℕ) (s : ℤ) (t : Table) → IsFactor k s → canonical k ds l (multiple s t) ≡ scaled_tree k s (canonical k ds l t)
+
+-- so both have the same nodes
+abbrev pub MultiplesKeepNodes : Type 0
+MultiplesKeepNodes = (k : KindName) (ds : List Decomp) (l : ℕ) (s : ℤ) (t : Table) → IsFactor k s → nodes k ds l (multiple s t) ≡ nodes k ds l t
+
+-- a table fits where a multiple of it does
+abbrev pub FactorsFit : Type 0
+FactorsFit = (k : KindName) (ds : List Decomp) (s : ℤ) (t : Table) → IsFactor k s → fits k ds (multiple s t) ≡ true → fits k ds t ≡ true
+
+-- a table is the multiple of another, whose canonical diagram is the tree that is left
+pub record IsMultipleOf (k : KindName) (ds : List Decomp) (l : ℕ) (s : ℤ) (left : Tree) (t : Table) : Type 0 where
+  pub is_factor : IsFactor k s
+  pub rest : Table
+  pub over : IsOver (length ds) rest
+  pub is_multiple : t ≡ multiple s rest
+  pub is_left : canonical k ds l rest ≡ left
+  pub put_back : scaled_tree k s left ≡ canonical k ds l t
+
+-- the factor of a canonical diagram is one of its table, unless it is 0
+abbrev pub FactorsAreTaken : Type 0
+FactorsAreTaken = (k : KindName) (ds : List Decomp) (l : ℕ) (t : Table) → are_allowed k ds ≡ true → IsOver (length ds) t →
+    factor_of k (canonical k ds l t).root ≢ pos 0 →
+    IsMultipleOf k ds l (factor_of k (canonical k ds l t).root) (unscaled_tree k (canonical k ds l t)) t
+
+-- and it is 0 for the constant 0 alone
+abbrev pub FactorIsZero : Type 0
+FactorIsZero = (k : KindName) (ds : List Decomp) (l : ℕ) (t : Tree) → are_allowed k ds ≡ true → IsCanonical k ds l t →
+    factor_of k t.root ≡ pos 0 → t ≡ constant k (pos 0)
+
+-- the factors of two tables are factors of their product, the first one's before the second's
+abbrev pub ProductsOfMultiples : Type 0
+ProductsOfMultiples = (n : ℕ) (s r : ℤ) (t u : Table) → IsOver n t → IsOver n u → times (multiple s t) (multiple r u) ≡ multiple s (multiple r (times t u))
+
+-- ---- summands, whatever the kind
+
+-- to raise a table by a constant is to add the constant's table
+abbrev pub RaisedTablesAreSums : Type 0
+RaisedTablesAreSums = (c : ℤ) (t : Table) → raised_by c t ≡ plus t (like t c)
+
+-- the table of a tree with a summand added is the tree's table, raised by it
+abbrev pub ShiftedTreesStand : Type 0
+ShiftedTreesStand = (k : KindName) (ds : List Decomp) (l : ℕ) (c : ℤ) (t : Tree) → IsSummand k c → table k ds l (shifted_tree k c t) ≡ raised_by c (table k ds l t)
+
+-- the canonical diagram of a table that is raised is the table's, with the summand added
+abbrev pub SummandsGoThrough : Type 0
+SummandsGoThrough = (k : KindName) (ds : List Decomp) (l : ℕ) (c : ℤ) (t : Table) → IsSummand k c → are_allowed k ds ≡ true → IsOver (length ds) t →
+    canonical k ds l (raised_by c t) ≡ shifted_tree k c (canonical k ds l t)
+
+-- so both have the same nodes
+abbrev pub RaisedTablesKeepNodes : Type 0
+RaisedTablesKeepNodes = (k : KindName) (ds : List Decomp) (l : ℕ) (c : ℤ) (t : Table) → IsSummand k c → are_allowed k ds ≡ true → IsOver (length ds) t →
+    nodes k ds l (raised_by c t) ≡ nodes k ds l t
+
+-- a table is another one raised, whose canonical diagram is the tree that is left
+pub record IsRaisedFrom (k : KindName) (ds : List Decomp) (l : ℕ) (c : ℤ) (left : Tree) (t : Table) : Type 0 where
+  pub is_summand : IsSummand k c
+  pub rest : Table
+  pub over : IsOver (length ds) rest
+  pub is_raised : t ≡ raised_by c rest
+  pub is_left : canonical k ds l rest ≡ left
+  pub put_back : shifted_tree k c left ≡ canonical k ds l t
+
+-- the summand of a canonical diagram is one of its table
+abbrev pub SummandsAreTaken : Type 0
+SummandsAreTaken = (k : KindName) (ds : List Decomp) (l : ℕ) (t : Table) → are_allowed k ds ≡ true → IsOver (length ds) t →
+    IsRaisedFrom k ds l (summand_of k (canonical k ds l t).root) (unshifted_tree k (canonical k ds l t)) t
+
+-- the summands of two tables add up in their sum
+abbrev pub SumsOfRaisedTables : Type 0
+SumsOfRaisedTables = (n : ℕ) (c e : ℤ) (t u : Table) → IsOver n t → IsOver n u → plus (raised_by c t) (raised_by e u) ≡ raised_by (c +ℤ e) (plus t u)

@@ -4,5 +4,6 @@ pub mod Parts
 pub mod Meaning
 pub mod Canonical
 pub mod Fits
+pub mod Factors
 pub mod Laws
 pub mod Pieces

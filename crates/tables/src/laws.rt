@@ -1,4 +1,4 @@
-ghost use Rattle.tables.specs.Laws.{ConstantsStand, ConstantsDiffer, LeavesAreConstants, JoinHasParts, PartsUndoJoin, JoinsSkip, PartsAreCanonical, JoinOfParts, CanonicalTreesAgree, JoinsAreCanonical, CanonicalStands, NodesAreAdded, NodesAreListed, NodesAreDistinct, ListedNodesAreDistinct, ContentOfParts, FitsParts};
+ghost use Rattle.tables.specs.Laws.{ConstantsStand, ConstantsDiffer, LeavesAreConstants, JoinHasParts, PartsUndoJoin, JoinsSkip, PartsAreCanonical, JoinOfParts, CanonicalTreesAgree, JoinsAreCanonical, CanonicalStands, NodesAreAdded, NodesAreListed, NodesAreDistinct, ListedNodesAreDistinct, ContentOfParts, FitsParts, ScaledTreesStand, FactorsGoThrough, MultiplesKeepNodes, FactorsFit, FactorsAreTaken, FactorIsZero, ProductsOfMultiples, RaisedTablesAreSums, ShiftedTreesStand, SummandsGoThrough, RaisedTablesKeepNodes, SummandsAreTaken, SumsOfRaisedTables};
 ghost use Rattle.word_base.specs.declared.kind_name.KindName.TheVariants.{Evbdd, Hdd, KStarBmd, StarBmd};
 
 /// The laws of hybrid diagrams (Clarke, Fujita and Zhao 1995), at Shannon, positive and negative Davio.
@@ -97,4 +97,25 @@ pub fn fits_laws()
     ensures star_bmd { FitsParts StarBmd }
     ensures hdd { FitsParts Hdd }
     ensures k_star_bmd { FitsParts KStarBmd }
+{}
+
+/// Multiplying a table by a number touches the root of its *BMD and its K*BMD alone.
+pub fn factor_laws()
+    ensures scaled_trees_stand { ScaledTreesStand }
+    ensures factors_go_through { FactorsGoThrough }
+    ensures multiples_keep_nodes { MultiplesKeepNodes }
+    ensures factors_fit { FactorsFit }
+    ensures factors_are_taken { FactorsAreTaken }
+    ensures factor_is_zero { FactorIsZero }
+    ensures products_of_multiples { ProductsOfMultiples }
+{}
+
+/// Adding a number to each entry of a table touches the root of its EVBDD and its K*BMD alone.
+pub fn summand_laws()
+    ensures raised_tables_are_sums { RaisedTablesAreSums }
+    ensures shifted_trees_stand { ShiftedTreesStand }
+    ensures summands_go_through { SummandsGoThrough }
+    ensures raised_tables_keep_nodes { RaisedTablesKeepNodes }
+    ensures summands_are_taken { SummandsAreTaken }
+    ensures sums_of_raised_tables { SumsOfRaisedTables }
 {}

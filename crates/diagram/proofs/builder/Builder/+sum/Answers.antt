@@ -1,85 +1,98 @@
-use Rattle.std.proofs.Common.{sym, ◌∙◌, subst, ℕ, ◌+◌, ◌-◌, ◌*◌, ◌<◌, ◌+ℤ◌, length, min, rules}
-use Rattle.std.specs.Prelude.{Ok}
+use Rattle.std.proofs.Common.{◌≡◌, sym, ◌∙◌, ap, subst, ℕ, ℤ, ◌+◌, ◌-◌, ◌*◌, ◌<◌, ◌+ℤ◌, length, min, rules}
+use Rattle.std.specs.Prelude.{Ok, Err, Result}
+use Rattle.word_base.specs.declared.kind_name.KindName.{KindName}
 use Rattle.tables.specs.Table.{plus}
-use Rattle.tables.specs.Pieces.{add_work}
-use Rattle.kind_laws.specs.Plain.{plain}
+use Rattle.kind_laws.specs.Plain.{PlainEdge, plain, answered}
+use Rattle.kind_laws.specs.Scale.{shift_of, unshifted}
 use Rattle.diagram.specs.Calls.{CanPart, ArePartsOfBoth, IsOfBoth, LieBelow, plain_parts}
-use Rattle.diagram.specs.View.{View, top_of}
+use Rattle.diagram.specs.Sums.{sum_work}
+use Rattle.diagram.specs.View.{View, IsEdge, top_of}
+use Rattle.diagram.specs.declared.limit.Limit.{Limit}
 use Rattle.diagram.specs.declared.limit.Limit.TheVariants as limit
+use Rattle.diagram.specs.declared.walk.Walk.{Walk}
+use Rattle.diagram.specs.declared.walk.Walk.TheVariants.{Stripping}
 use Rattle.diagram.proofs.BothLaws.{constant_is, constants_answer, HaveNode, can_part_first, can_part_second, parts_lie_below}
 use Rattle.diagram.proofs.CallLaws.{same_keeps, both_of_parts, both_unfit}
 use Rattle.diagram.proofs.LevelLaws.{still_edge}
 use Rattle.diagram.specs.declared.operation.Operation.TheVariants.{Sum}
 use Rattle.diagram.proofs.RememberedLaws.{known_both, both_result}
+use Rattle.diagram.proofs.ShiftLaws.{unshifted_good}
 use Rattle.diagram.proofs.StoreLaws.{keeps_on, keeps_itself}
-use Rattle.diagram.proofs.SumLaws.{add_by_halves, sum_covers_sum, sum_covers_operands}
+use Rattle.diagram.proofs.StrippedSums.{IsStripped, shifts_overflow, rests_refuse, put_overflows, shifts_put_back}
+use Rattle.diagram.proofs.SumLaws.{sum_by_halves, sum_covers_sum, sum_covers_operands}
 use Rattle.diagram.proofs.SumCalls.{refused_both, low_refuses, high_refuses, sum_joins, sums_can_join, falls_to_high}
 use Rattle.diagram.proofs.builder.Builder.+sum.Goals as goal
 
-pub add-value-requires : goal.add-value-requires
-add-value-requires g t c =
+-- the sum of what is left
+of_rests : (k : KindName) (v w : View) (a b first second : PlainEdge) (r : Result PlainEdge Limit) → first ≡ unshifted k a → second ≡ unshifted k b →
+    IsStripped k v w first second r → IsStripped k v w (unshifted k a) (unshifted k b) r
+of_rests k v w a b first second r p q sum =
+    subst (λ (e : PlainEdge). IsStripped k v w (unshifted k a) e r) q (subst (λ (e : PlainEdge). IsStripped k v w e second r) p sum)
+
+pub sum_by-value-requires : goal.sum_by-value-requires
+sum_by-value-requires g t c =
     constant_is g.K.Kind.NAME c.args.self.now (plain g.K.Kind.extra_of c.args.a) c.requires.a_good (c.are_constants.ensures.0 c.if-are_constants.true).0
 
-pub add-value-requires-then-are_constants : goal.add-value-requires-then-are_constants
-add-value-requires-then-are_constants g t c =
+pub sum_by-value-requires-then-are_constants : goal.sum_by-value-requires-then-are_constants
+sum_by-value-requires-then-are_constants g t c =
     constant_is g.K.Kind.NAME c.args.self.now (plain g.K.Kind.extra_of c.args.b) c.requires.b_good (c.are_constants.ensures.0 c.if-are_constants.true).1
 
-pub add-returns-then-are_constants-clause-sum : goal.add-returns-then-are_constants-clause-sum
-add-returns-then-are_constants-clause-sum g t c = λ l x y h e.
+pub sum_by-returns-then-are_constants-clause-sum : goal.sum_by-returns-then-are_constants-clause-sum
+sum_by-returns-then-are_constants-clause-sum g t c = λ l x y h e.
     let k = g.K.Kind.NAME in
     let v = c.args.self.now in
     let a = plain g.K.Kind.extra_of c.args.a in
     let b = plain g.K.Kind.extra_of c.args.b in
-    constants_answer k v (λ m n. m +ℤ n) (add_work l x y) l x y a b c.value.result c.value-then-are_constants.result c.add.result _
-    c.value.ensures c.value-then-are_constants.ensures c.add.ensures c.constant_of.ensures h e (sum_covers_sum k v.letters l x y)
+    constants_answer k v (λ m n. m +ℤ n) (sum_work c.args.walk l x y) l x y a b c.value.result c.value-then-are_constants.result c.add.result _
+    c.value.ensures c.value-then-are_constants.ensures c.add.ensures c.constant_of.ensures h e (sum_covers_sum c.args.walk k v.letters l x y)
 
-pub add-returns-in-Some-clause-sum : goal.add-returns-in-Some-clause-sum
-add-returns-in-Some-clause-sum g t c =
+pub sum_of-returns-in-Some-clause-sum : goal.sum_of-returns-in-Some-clause-sum
+sum_of-returns-in-Some-clause-sum g t c =
     let k = g.K.Kind.NAME in
     let v = c.args.self.now in
     let a = plain g.K.Kind.extra_of c.args.a in
     let b = plain g.K.Kind.extra_of c.args.b in
-    known_both Sum k add_work v a b (plain g.K.Kind.extra_of c.in-Some.sum) c.in-Some.ensures
+    known_both Sum k (sum_work c.args.walk) v a b (plain g.K.Kind.extra_of c.in-Some.sum) c.in-Some.ensures
 
-pub add-remember-requires-clause-is_result : goal.add-remember-requires-clause-is_result
-add-remember-requires-clause-is_result g t c = λ lives bounds.
+pub sum_of-remember-requires-clause-is_result : goal.sum_of-remember-requires-clause-is_result
+sum_of-remember-requires-clause-is_result g t c = λ lives bounds.
     let k = g.K.Kind.NAME in
     let v = c.args.self.now in
-    let w = c.add_anew.new.self in
+    let w = c.sum_anew.new.self in
     let a = plain g.K.Kind.extra_of c.args.a in
     let b = plain g.K.Kind.extra_of c.args.b in
-    both_result Sum k add_work v w a b (plain g.K.Kind.extra_of c.in_ok-sum.sum) c.in_ok-sum.ensures.keeps c.requires.a_good c.requires.b_good
+    both_result Sum k (sum_work c.args.walk) v w a b (plain g.K.Kind.extra_of c.in_ok-sum.sum) c.in_ok-sum.ensures.keeps c.requires.a_good c.requires.b_good
     c.in_ok-sum.ensures.sum
 
-pub add-returns-clause-sum : goal.add-returns-clause-sum
-add-returns-clause-sum g t c =
+pub sum_of-returns-clause-sum : goal.sum_of-returns-clause-sum
+sum_of-returns-clause-sum g t c =
     let k = g.K.Kind.NAME in
     let v = c.args.self.now in
     let a = plain g.K.Kind.extra_of c.args.a in
     let b = plain g.K.Kind.extra_of c.args.b in
-    subst (λ (w : View). IsOfBoth plus add_work k v w a b (Ok (plain g.K.Kind.extra_of c.in_ok-sum.sum))) (sym c.remember.ensures) c.in_ok-sum.ensures.sum
+    subst (λ (w : View). IsOfBoth plus (sum_work c.args.walk) k v w a b (Ok (plain g.K.Kind.extra_of c.in_ok-sum.sum))) (sym c.remember.ensures) c.in_ok-sum.ensures.sum
 
-pub add-returns-then-are_constants-clause-keeps : goal.add-returns-then-are_constants-clause-keeps
-add-returns-then-are_constants-clause-keeps g t c = keeps_itself c.args.self.now
+pub sum_by-returns-then-are_constants-clause-keeps : goal.sum_by-returns-then-are_constants-clause-keeps
+sum_by-returns-then-are_constants-clause-keeps g t c = keeps_itself c.args.self.now
 
-pub add-returns-in_err-sum-clause-sum : goal.add-returns-in_err-sum-clause-sum
-add-returns-in_err-sum-clause-sum g t c =
+pub sum_of-returns-in_err-sum-clause-sum : goal.sum_of-returns-in_err-sum-clause-sum
+sum_of-returns-in_err-sum-clause-sum g t c =
     let k = g.K.Kind.NAME in
     let v = c.args.self.now in
     let a = plain g.K.Kind.extra_of c.args.a in
     let b = plain g.K.Kind.extra_of c.args.b in
-    refused_both k plus add_work v c.add_anew.new.self a b (plain g.K.Kind.extra_of) c.from_residual.result c.in_err-sum.field-0.0 c.from_residual.ensures.1 c.in_err-sum.ensures.sum
+    refused_both k plus (sum_work c.args.walk) v c.sum_anew.new.self a b (plain g.K.Kind.extra_of) c.from_residual.result c.in_err-sum.field-0.0 c.from_residual.ensures.1 c.in_err-sum.ensures.sum
 
-pub add-remember-requires-clause-a_good : goal.add-remember-requires-clause-a_good
-add-remember-requires-clause-a_good g t c = λ lives bounds.
-    still_edge g.K.Kind.NAME c.args.self.now c.add_anew.new.self (plain g.K.Kind.extra_of c.args.a) c.in_ok-sum.ensures.keeps c.requires.a_good
+pub sum_of-remember-requires-clause-a_good : goal.sum_of-remember-requires-clause-a_good
+sum_of-remember-requires-clause-a_good g t c = λ lives bounds.
+    still_edge g.K.Kind.NAME c.args.self.now c.sum_anew.new.self (plain g.K.Kind.extra_of c.args.a) c.in_ok-sum.ensures.keeps c.requires.a_good
 
-pub add-remember-requires-clause-b_good : goal.add-remember-requires-clause-b_good
-add-remember-requires-clause-b_good g t c = λ lives bounds.
-    still_edge g.K.Kind.NAME c.args.self.now c.add_anew.new.self (plain g.K.Kind.extra_of c.args.b) c.in_ok-sum.ensures.keeps c.requires.b_good
+pub sum_of-remember-requires-clause-b_good : goal.sum_of-remember-requires-clause-b_good
+sum_of-remember-requires-clause-b_good g t c = λ lives bounds.
+    still_edge g.K.Kind.NAME c.args.self.now c.sum_anew.new.self (plain g.K.Kind.extra_of c.args.b) c.in_ok-sum.ensures.keeps c.requires.b_good
 
-pub add_anew-parts_of_both-requires-clause-a : goal.add_anew-parts_of_both-requires-clause-a
-add_anew-parts_of_both-requires-clause-a g t c = λ lives bounds.
+pub sum_anew-parts_of_both-requires-clause-a : goal.sum_anew-parts_of_both-requires-clause-a
+sum_anew-parts_of_both-requires-clause-a g t c = λ lives bounds.
     let k = g.K.Kind.NAME in
     let v = c.args.self.now in
     let a = plain g.K.Kind.extra_of c.args.a in
@@ -88,8 +101,8 @@ add_anew-parts_of_both-requires-clause-a g t c = λ lives bounds.
     subst (λ (w : View). CanPart k w c.upper-level.result a) (sym c.upper-level.ensures.unchanged)
     (can_part_first k v a b c.upper-level.result have c.upper-level.ensures.upper)
 
-pub add_anew-parts_of_both-requires-clause-b : goal.add_anew-parts_of_both-requires-clause-b
-add_anew-parts_of_both-requires-clause-b g t c = λ lives bounds.
+pub sum_anew-parts_of_both-requires-clause-b : goal.sum_anew-parts_of_both-requires-clause-b
+sum_anew-parts_of_both-requires-clause-b g t c = λ lives bounds.
     let k = g.K.Kind.NAME in
     let v = c.args.self.now in
     let a = plain g.K.Kind.extra_of c.args.a in
@@ -98,23 +111,23 @@ add_anew-parts_of_both-requires-clause-b g t c = λ lives bounds.
     subst (λ (w : View). CanPart k w c.upper-level.result b) (sym c.upper-level.ensures.unchanged)
     (can_part_second k v a b c.upper-level.result have c.upper-level.ensures.upper)
 
-pub add_anew-returns-in_err-parts-clause-keeps : goal.add_anew-returns-in_err-parts-clause-keeps
-add_anew-returns-in_err-parts-clause-keeps g t c =
+pub sum_anew-returns-in_err-parts-clause-keeps : goal.sum_anew-returns-in_err-parts-clause-keeps
+sum_anew-returns-in_err-parts-clause-keeps g t c =
     same_keeps c.args.self.now c.parts_of_both.new.self (c.in_err-parts.ensures.unchanged ∙ c.upper-level.ensures.unchanged)
 
-pub add_anew-returns-in_err-parts-clause-sum : goal.add_anew-returns-in_err-parts-clause-sum
-add_anew-returns-in_err-parts-clause-sum g t c =
+pub sum_anew-returns-in_err-parts-clause-sum : goal.sum_anew-returns-in_err-parts-clause-sum
+sum_anew-returns-in_err-parts-clause-sum g t c =
     let k = g.K.Kind.NAME in
     let v = c.args.self.now in
     let a = plain g.K.Kind.extra_of c.args.a in
     let b = plain g.K.Kind.extra_of c.args.b in
-    refused_both k plus add_work v c.parts_of_both.new.self a b (plain g.K.Kind.extra_of) c.from_residual.result limit.Overflow c.from_residual.ensures.1
-    (both_unfit k plus add_work v c.upper-level.new.self c.parts_of_both.new.self a b c.upper-level.result c.in_err-parts.field-0.0
+    refused_both k plus (sum_work c.args.walk) v c.parts_of_both.new.self a b (plain g.K.Kind.extra_of) c.from_residual.result limit.Overflow c.from_residual.ensures.1
+    (both_unfit k plus (sum_work c.args.walk) v c.upper-level.new.self c.parts_of_both.new.self a b c.upper-level.result c.in_err-parts.field-0.0
     c.upper-level.ensures.unchanged c.in_err-parts.ensures.unchanged c.requires.a_good c.requires.b_good c.upper-level.ensures.upper
-    (add_by_halves k v c.requires.a_good.1.allowed) (λ l x y. sum_covers_operands k v.letters l x y) c.in_err-parts.ensures.parts)
+    (sum_by_halves c.args.walk k v c.requires.a_good.1.allowed) (λ l x y. sum_covers_operands c.args.walk k v.letters l x y) c.in_err-parts.ensures.parts)
 
-pub add_anew-add_at-requires-after_bounds : goal.add_anew-add_at-requires-after_bounds
-add_anew-add_at-requires-after_bounds g t c = λ lives bounds.
+pub sum_anew-sum_at-requires-after_bounds : goal.sum_anew-sum_at-requires-after_bounds
+sum_anew-sum_at-requires-after_bounds g t c = λ lives bounds.
     let k = g.K.Kind.NAME in
     let v = c.args.self.now in
     let a = plain g.K.Kind.extra_of c.args.a in
@@ -128,58 +141,130 @@ add_anew-add_at-requires-after_bounds g t c = λ lives bounds.
     (can_part_first k v a b level have c.upper-level.ensures.upper)
     (can_part_second k v a b level have c.upper-level.ensures.upper) here)
 
-pub add_anew-returns-clause-sum : goal.add_anew-returns-clause-sum
-add_anew-returns-clause-sum g t c =
+pub sum_anew-returns-clause-sum : goal.sum_anew-returns-clause-sum
+sum_anew-returns-clause-sum g t c =
     let k = g.K.Kind.NAME in
     let v = c.args.self.now in
     let a = plain g.K.Kind.extra_of c.args.a in
     let b = plain g.K.Kind.extra_of c.args.b in
     let parts = plain_parts g.K.Kind.extra_of c.in_ok-parts.parts in
-    both_of_parts k plus add_work v c.upper-level.new.self c.parts_of_both.new.self c.add_at.new.self a b c.upper-level.result parts _
-    c.upper-level.ensures.unchanged c.in_ok-parts.ensures.unchanged c.requires.a_good c.requires.b_good c.upper-level.ensures.upper c.add_at.ensures.keeps
-    (add_by_halves k v c.requires.a_good.1.allowed) c.in_ok-parts.ensures.parts c.add_at.ensures.sum
+    both_of_parts k plus (sum_work c.args.walk) v c.upper-level.new.self c.parts_of_both.new.self c.sum_at.new.self a b c.upper-level.result parts _
+    c.upper-level.ensures.unchanged c.in_ok-parts.ensures.unchanged c.requires.a_good c.requires.b_good c.upper-level.ensures.upper c.sum_at.ensures.keeps
+    (sum_by_halves c.args.walk k v c.requires.a_good.1.allowed) c.in_ok-parts.ensures.parts c.sum_at.ensures.sum
 
-pub add_at-returns-in_err-low-clause-sum : goal.add_at-returns-in_err-low-clause-sum
-add_at-returns-in_err-low-clause-sum g t c = λ x y s.
+pub sum_at-returns-in_err-low-clause-sum : goal.sum_at-returns-in_err-low-clause-sum
+sum_at-returns-in_err-low-clause-sum g t c = λ x y s.
     let k = g.K.Kind.NAME in
     let v = c.args.self.now in
-    low_refuses k v c.add.new.self c.args.level x y _ (plain g.K.Kind.extra_of) c.from_residual.result c.in_err-low.field-0.0 c.requires s c.from_residual.ensures.1
+    low_refuses c.args.walk k v c.sum_by.new.self c.args.level x y _ (plain g.K.Kind.extra_of) c.from_residual.result c.in_err-low.field-0.0 c.requires s c.from_residual.ensures.1
     c.in_err-low.ensures.keeps c.in_err-low.ensures.sum
 
-pub add_at-returns-in_err-high-clause-keeps : goal.add_at-returns-in_err-high-clause-keeps
-add_at-returns-in_err-high-clause-keeps g t c =
-    keeps_on c.args.self.now c.add.new.self c.add-2.new.self c.in_ok-low.ensures.keeps c.in_err-high.ensures.keeps
+pub sum_at-returns-in_err-high-clause-keeps : goal.sum_at-returns-in_err-high-clause-keeps
+sum_at-returns-in_err-high-clause-keeps g t c =
+    keeps_on c.args.self.now c.sum_by.new.self c.sum_by-2.new.self c.in_ok-low.ensures.keeps c.in_err-high.ensures.keeps
 
-pub add_at-returns-in_err-high-clause-sum : goal.add_at-returns-in_err-high-clause-sum
-add_at-returns-in_err-high-clause-sum g t c = λ x y s.
+pub sum_at-returns-in_err-high-clause-sum : goal.sum_at-returns-in_err-high-clause-sum
+sum_at-returns-in_err-high-clause-sum g t c = λ x y s.
     let k = g.K.Kind.NAME in
     let v = c.args.self.now in
-    high_refuses k v c.add.new.self c.add-2.new.self c.args.level x y _ _ (plain g.K.Kind.extra_of) c.from_residual-in_err-high.result c.in_err-high.field-0.0 c.requires s
+    high_refuses c.args.walk k v c.sum_by.new.self c.sum_by-2.new.self c.args.level x y _ _ (plain g.K.Kind.extra_of) c.from_residual-in_err-high.result c.in_err-high.field-0.0 c.requires s
     c.from_residual-in_err-high.ensures.1 c.in_ok-low.ensures.keeps c.in_ok-low.ensures.sum c.in_err-high.ensures.keeps c.in_err-high.ensures.sum
 
-pub add_at-join-requires-after_bounds : goal.add_at-join-requires-after_bounds
-add_at-join-requires-after_bounds g t c = λ lives bounds.
-    sums_can_join g.K.Kind.NAME c.args.self.now c.add.new.self c.add-2.new.self c.args.level _ (plain g.K.Kind.extra_of c.in_ok-low.low) (plain g.K.Kind.extra_of c.in_ok-high.high)
+pub sum_at-join-requires-after_bounds : goal.sum_at-join-requires-after_bounds
+sum_at-join-requires-after_bounds g t c = λ lives bounds.
+    sums_can_join c.args.walk g.K.Kind.NAME c.args.self.now c.sum_by.new.self c.sum_by-2.new.self c.args.level _ (plain g.K.Kind.extra_of c.in_ok-low.low) (plain g.K.Kind.extra_of c.in_ok-high.high)
     c.requires c.in_ok-low.ensures.keeps c.in_ok-low.ensures.sum c.in_ok-high.ensures.keeps c.in_ok-high.ensures.sum
 
-pub add_at-returns-clause-keeps : goal.add_at-returns-clause-keeps
-add_at-returns-clause-keeps g t c =
-    keeps_on c.args.self.now c.add-2.new.self c.join.new.self
-    (keeps_on c.args.self.now c.add.new.self c.add-2.new.self c.in_ok-low.ensures.keeps c.in_ok-high.ensures.keeps) c.join.ensures.keeps
+pub sum_at-returns-clause-keeps : goal.sum_at-returns-clause-keeps
+sum_at-returns-clause-keeps g t c =
+    keeps_on c.args.self.now c.sum_by-2.new.self c.join.new.self
+    (keeps_on c.args.self.now c.sum_by.new.self c.sum_by-2.new.self c.in_ok-low.ensures.keeps c.in_ok-high.ensures.keeps) c.join.ensures.keeps
 
-pub add_at-returns-clause-sum : goal.add_at-returns-clause-sum
-add_at-returns-clause-sum g t c = λ x y s.
-    sum_joins g.K.Kind.NAME c.args.self.now c.add.new.self c.add-2.new.self c.join.new.self c.args.level x y _ (plain g.K.Kind.extra_of c.in_ok-low.low)
+pub sum_at-returns-clause-sum : goal.sum_at-returns-clause-sum
+sum_at-returns-clause-sum g t c = λ x y s.
+    sum_joins c.args.walk g.K.Kind.NAME c.args.self.now c.sum_by.new.self c.sum_by-2.new.self c.join.new.self c.args.level x y _ (plain g.K.Kind.extra_of c.in_ok-low.low)
     (plain g.K.Kind.extra_of c.in_ok-high.high) _ c.requires s c.in_ok-low.ensures.keeps c.in_ok-low.ensures.sum c.in_ok-high.ensures.keeps c.in_ok-high.ensures.sum
     c.join.ensures.keeps c.join.ensures.join
 
-pub add_at-add-requires-2 : goal.add_at-add-requires-2
-add_at-add-requires-2 g t c = λ lives bounds.
+pub sum_at-sum_by-requires-2 : goal.sum_at-sum_by-requires-2
+sum_at-sum_by-requires-2 g t c = λ lives bounds.
     let k = g.K.Kind.NAME in
     let v = c.args.self.now in
-    let w = c.add.new.self in
+    let w = c.sum_by.new.self in
     let a = plain g.K.Kind.extra_of c.args.parts.high.0 in
     let b = plain g.K.Kind.extra_of c.args.parts.high.1 in
     let falls = falls_to_high k v w c.args.level (plain_parts g.K.Kind.extra_of c.args.parts) c.requires c.in_ok-low.ensures.keeps in
     let keeps = c.in_ok-low.ensures.keeps in
-    (subst (λ (n : ℕ). 3 * (length w.letters - min (top_of w a.node) (top_of w b.node)) + 2 < n) c.decreases falls, (bounds.0, (bounds.1.0, (bounds.1.1, (search rules, (search rules, (search rules, (search rules, (still_edge k v w a keeps c.requires.first_high.good, still_edge k v w b keeps c.requires.second_high.good)))))))))
+    (subst (λ (n : ℕ). 5 * (length w.letters - min (top_of w a.node) (top_of w b.node)) + 4 < n) c.decreases falls, (bounds.0, (bounds.1.0, (bounds.1.1, (search rules, (search rules, (search rules, (search rules, (still_edge k v w a keeps c.requires.first_high.good, still_edge k v w b keeps c.requires.second_high.good)))))))))
+
+pub sum_by-returns-in-Stripping-clause-sum : goal.sum_by-returns-in-Stripping-clause-sum
+sum_by-returns-in-Stripping-clause-sum g t c =
+    let k = g.K.Kind.NAME in
+    let a = plain g.K.Kind.extra_of c.args.a in
+    let b = plain g.K.Kind.extra_of c.args.b in
+    subst (λ (walk : Walk). IsOfBoth plus (sum_work walk) k c.args.self.now c.sum_of_rests.new.self a b (answered (plain g.K.Kind.extra_of) c.sum_of_rests.result))
+    (sym c.in-Stripping.is) c.sum_of_rests.ensures.sum
+
+pub sum_of_rests-returns-in_err-shift-clause-keeps : goal.sum_of_rests-returns-in_err-shift-clause-keeps
+sum_of_rests-returns-in_err-shift-clause-keeps g t c = keeps_itself c.args.self.now
+
+pub sum_of_rests-returns-in_err-shift-clause-sum : goal.sum_of_rests-returns-in_err-shift-clause-sum
+sum_of_rests-returns-in_err-shift-clause-sum g t c =
+    let k = g.K.Kind.NAME in
+    let v = c.args.self.now in
+    let a = plain g.K.Kind.extra_of c.args.a in
+    let b = plain g.K.Kind.extra_of c.args.b in
+    refused_both k plus (sum_work Stripping) v v a b (plain g.K.Kind.extra_of) c.from_residual.result limit.Overflow c.from_residual.ensures.1
+    (shifts_overflow k v a b)
+
+pub sum_of_rests-sum_of-requires-clause-a_good : goal.sum_of_rests-sum_of-requires-clause-a_good
+sum_of_rests-sum_of-requires-clause-a_good g t c = λ lives bounds.
+    let k = g.K.Kind.NAME in
+    let v = c.args.self.now in
+    subst (IsEdge k v) (sym c.take_shift-first_shift.ensures.rest) (unshifted_good k v (plain g.K.Kind.extra_of c.args.a) c.requires.a_good)
+
+pub sum_of_rests-sum_of-requires-clause-b_good : goal.sum_of_rests-sum_of-requires-clause-b_good
+sum_of_rests-sum_of-requires-clause-b_good g t c = λ lives bounds.
+    let k = g.K.Kind.NAME in
+    let v = c.args.self.now in
+    subst (IsEdge k v) (sym c.take_shift-second_shift.ensures.rest) (unshifted_good k v (plain g.K.Kind.extra_of c.args.b) c.requires.b_good)
+
+pub sum_of_rests-returns-in_err-rest-clause-sum : goal.sum_of_rests-returns-in_err-rest-clause-sum
+sum_of_rests-returns-in_err-rest-clause-sum g t c =
+    let k = g.K.Kind.NAME in
+    let v = c.args.self.now in
+    let w = c.sum_of.new.self in
+    let a = plain g.K.Kind.extra_of c.args.a in
+    let b = plain g.K.Kind.extra_of c.args.b in
+    refused_both k plus (sum_work Stripping) v w a b (plain g.K.Kind.extra_of) c.from_residual-in_err-rest.result c.in_err-rest.field-0.0
+    c.from_residual-in_err-rest.ensures.1
+    (rests_refuse k v w a b c.in_err-rest.field-0.0 c.in_err-rest.ensures.keeps
+    (of_rests k v w a b _ _ (Err c.in_err-rest.field-0.0) c.take_shift-first_shift.ensures.rest c.take_shift-second_shift.ensures.rest c.in_err-rest.ensures.sum))
+
+pub sum_of_rests-returns-in_err-put_shift-clause-sum : goal.sum_of_rests-returns-in_err-put_shift-clause-sum
+sum_of_rests-returns-in_err-put_shift-clause-sum g t c =
+    let k = g.K.Kind.NAME in
+    let v = c.args.self.now in
+    let w = c.sum_of.new.self in
+    let a = plain g.K.Kind.extra_of c.args.a in
+    let b = plain g.K.Kind.extra_of c.args.b in
+    let rest = plain g.K.Kind.extra_of c.in_ok-rest.rest in
+    refused_both k plus (sum_work Stripping) v w a b (plain g.K.Kind.extra_of) c.from_residual-in_err-put_shift.result limit.Overflow
+    c.from_residual-in_err-put_shift.ensures.1
+    (put_overflows k v w a b rest c.in_ok-rest.ensures.keeps
+    (of_rests k v w a b _ _ (Ok rest) c.take_shift-first_shift.ensures.rest c.take_shift-second_shift.ensures.rest c.in_ok-rest.ensures.sum))
+
+pub sum_of_rests-returns-clause-sum : goal.sum_of_rests-returns-clause-sum
+sum_of_rests-returns-clause-sum g t c =
+    let k = g.K.Kind.NAME in
+    let v = c.args.self.now in
+    let w = c.sum_of.new.self in
+    let a = plain g.K.Kind.extra_of c.args.a in
+    let b = plain g.K.Kind.extra_of c.args.b in
+    let rest = plain g.K.Kind.extra_of c.in_ok-rest.rest in
+    let sum = plain g.K.Kind.extra_of c.in_ok-put_shift.field-0 in
+    let first = c.take_shift-first_shift.ensures in
+    let second = c.take_shift-second_shift.ensures in
+    let shift = c.in_ok-shift.ensures.1 ∙ ap (λ (x : ℤ). x +ℤ c.take_shift-second_shift.result.0) first.shift ∙ ap (λ (y : ℤ). shift_of k a.root +ℤ y) second.shift in
+    shifts_put_back k v w a b rest sum c.in_ok-shift.shift c.in_ok-rest.ensures.keeps shift c.in_ok-put_shift.ensures.1
+    (of_rests k v w a b _ _ (Ok rest) first.rest second.rest c.in_ok-rest.ensures.sum)
