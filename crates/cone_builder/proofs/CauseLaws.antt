@@ -2,7 +2,7 @@
 use Rattle.std.proofs.Common.{◌≡◌, sym, ◌∙◌, ap, subst, ℕ, ◌<◌, Bool, true, List, [], ◌∷◌, length, drop, take, get_or, map, arith}
 use Rattle.std.specs.Prelude.{Result, Ok, Err, Contains, Option, Some, slice_get, slice_index_or}
 use Rattle.std.specs.Option.{option_map_or}
-use Rattle.std.specs.Result.{IsErrAnd}
+use Rattle.std.specs.Result.{IsErrAnd, OnOk}
 use Rattle.std.proofs.lemmas.Option.{slice_get-get_or}
 use Rattle.std.proofs.lemmas.List.Elements.{Contains-get_or}
 use Rattle.circuits.specs.Circuit.{Circuit, Gate, gate_of}
@@ -35,6 +35,11 @@ use Rattle.circuits.specs.Valuation.{bit_of}
 use Rattle.circuits.proofs.Members.{among-from_Contains}
 
 -- ---- results
+-- nothing is said of the value of a call that refused
+pub none_if_refused : {X E : Type 0} (r : Result X E) (A : Type 0) (P : E → Type 0) → IsErrAnd r P → OnOk r A
+none_if_refused (Ok x) A P is = absurd is
+none_if_refused (Err e) A P is = tt
+
 -- what answers has no cause to give
 pub causes_answered : {X Y : Type 0} (k : KindName) (v w : View) (ps : List Piece) (r : Result X Limit) (y : Y) → Causes k v w ps r → Causes k v w ps (Ok y)
 causes_answered k v w ps r y d = record { made = d.made; cause = record { overflow = λ e. absurd (cc); full = λ e. absurd (cc) } }

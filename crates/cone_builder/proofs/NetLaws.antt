@@ -1,7 +1,7 @@
 -- The nets that a check needs: their order, their tables, and which of them are built.
 use Rattle.word_base.specs.declared.kind_name.KindName.{KindName}
 use Rattle.std.proofs.Common.{◌≡◌, refl, sym, ◌∙◌, ap, subst, ℕ, zero, suc, ◌+◌, ◌-◌, ◌<◌, ◌≤◌, pos, Bool, true, false, ◌&&◌, List, [], ◌∷◌, ◌++◌, length, take, drop, get_or, arith, inl, inr, ⊎_elim, map}
-use Rattle.std.specs.Prelude.{◌⊎◌, All, Contains, IfSome, Option, Some, None, slice_get, nat_lt}
+use Rattle.std.specs.Prelude.{◌⊎◌, All, Contains, Err, IfSome, Ok, OnOk, Option, Result, Some, None, slice_get, nat_lt}
 use Rattle.std.proofs.lemmas.Bool.{ltb-true, or_left, or_right}
 use Rattle.std.proofs.lemmas.Bool.Decides.{nat_tests}
 use Rattle.std.proofs.lemmas.List.{length-drop, append-nil, take_all}
@@ -31,6 +31,8 @@ use Rattle.diagram.specs.View.{View}
 use Rattle.kind_laws.specs.Plain.{PlainEdge}
 use Rattle.word_apply.specs.Applied.{AreEdges}
 use Rattle.cone_builder.specs.Built.{AreBuilt, AreGates, AreVariables, ComeAfter, NetsAreBuilt, is_marked, or_listed}
+use Rattle.cone_builder.specs.Plans.{BuildsPlan, CanBuild, IsPlanOf, PlainPlan, is_planned}
+use Rattle.cone_builder.specs.declared.build_error.BuildError.{BuildError}
 use Rattle.cone_builder.proofs.BuiltLaws.{fewer_built}
 use Rattle.cone_builder.proofs.GateLaws.{reads_some}
 
@@ -154,21 +156,44 @@ written_back n old new whole same =
     ap (λ rest. take n (new ++ rest)) (ap (λ (j : ℕ). drop j old) same ∙ drop-length old)
     ∙ ap (take n) (append-nil new) ∙ take_all n new (omega (arith, whole, same))
 
-pub nets_are_built : (k : KindName) (c : Circuit) (s : Specification) (number : ℕ) (named gates : List ℕ) (marks : List Bool) (v w : View) (edges : List PlainEdge) → IsOver c s → IsWellFormed s → IsSound c → IsAccepted c →
-    v.letters ≡ s.letters → number < length s.checks → IfSome (slice_get s.checks number) (λ check. named ≡ nets_named s check) →
-    ((n : ℕ) → n < net_count c → bit_of marks n ≡ is_in_cone c named n) → gates ≡ cone c named → length edges ≡ net_count c → AreEdges k w edges →
-    ((table : ℕ → Table) → AreVariables v s.order table → AreGates c table → ComeAfter c (is_marked s.order marks) gates →
-    AreBuilt k w table (or_listed (is_marked s.order marks) gates) edges) → NetsAreBuilt k c s number w edges
-nets_are_built k c s number named gates marks v w edges over good sound accepted letters low is tells cone_is many all_good makes =
+-- ---- the plan of a check
+-- a plan, by the lists that its parts were made of
+pub is_plan_of : (c : Circuit) (s : Specification) (named from_marks from_gates order gates listed : List ℕ) (marks bits : List Bool) → order ≡ s.order → from_marks ≡ named →
+    marks ≡ bits → ((net : ℕ) → net < net_count c → bit_of bits net ≡ is_in_cone c from_marks net) → from_gates ≡ named → gates ≡ listed → listed ≡ cone c from_gates →
+    IsPlanOf c s named (record { order = order; marks = marks; gates = gates })
+is_plan_of c s named from_marks from_gates order gates listed marks bits ordered same_marks is_bits tells same_gates is_listed is_cone =
+    record {
+      order = ordered;
+      marks = λ net low. ap (λ (all : List Bool). bit_of all net) is_bits ∙ tells net low ∙ ap (λ (ns : List ℕ). is_in_cone c ns net) same_marks;
+      gates = is_listed ∙ is_cone ∙ ap (cone c) same_gates;
+    }
+
+pub can_build : (c : Circuit) (s : Specification) (named : List ℕ) (plan : PlainPlan) (v : View) → IsOver c s → IsWellFormed s → IsSound c → IsAccepted c →
+    v.letters ≡ s.letters → IsPlanOf c s named plan → CanBuild c v plan (net_table c s)
+can_build c s named plan v over good sound accepted letters is =
+    subst (λ (order : List ℕ). CanBuild c v (record plan { order = order }) (net_table c s)) (sym is.order)
+    (record {
+      variables = are_variables c s v over good letters;
+      gates = are_gates c s sound accepted;
+      after = come_after c s named plan.gates plan.marks over good accepted is.marks is.gates;
+    })
+
+pub nets_are_built : {X : Type 0} (k : KindName) (c : Circuit) (s : Specification) (number : ℕ) (named : List ℕ) (plan : PlainPlan) (v w : View) (edges : List PlainEdge) (result : Result X BuildError) →
+    IsOver c s → IsWellFormed s → IsSound c → IsAccepted c → v.letters ≡ s.letters → number < length s.checks →
+    IfSome (slice_get s.checks number) (λ check. named ≡ nets_named s check) → IsPlanOf c s named plan → length edges ≡ net_count c →
+    BuildsPlan k c v w plan edges result → OnOk result (NetsAreBuilt k c s number w edges)
+nets_are_built k c s number named plan v w edges (Err e) over good sound accepted letters low is planned many builds = tt
+nets_are_built k c s number named plan v w edges (Ok x) over good sound accepted letters low is planned many builds =
     let check = check_there s number low in
     let same : named ≡ nets_named s check.0 = if_some_at (slice_get s.checks number) check.0 (λ x. named ≡ nets_named s x) check.1 is in
     record {
       many = many;
-      good = all_good;
+      good = builds.good;
       built = subst (λ (o : Option Check). IfSome o (λ x. AreBuilt k w (net_table c s) (is_among (nets_named s x)) edges)) (sym check.1)
-          (fewer_built k w (net_table c s) (or_listed (is_marked s.order marks) gates) (is_among (nets_named s check.0)) edges
+          (fewer_built k w (net_table c s) (is_planned plan) (is_among (nets_named s check.0)) edges
           (λ net p.
-          named_built c s named gates marks net over good accepted tells cone_is
-          (named_below c s check.0 net over (Contains-from_among (nets_named s check.0) net p)) (subst (λ (ns : List ℕ). is_among ns net ≡ true) (sym same) p))
-          (makes (net_table c s) (are_variables c s v over good letters) (are_gates c s sound accepted) (come_after c s named gates marks over good accepted tells cone_is)));
+          subst (λ (order : List ℕ). is_planned (record plan { order = order }) net ≡ true) (sym planned.order)
+          (named_built c s named plan.gates plan.marks net over good accepted planned.marks planned.gates
+          (named_below c s check.0 net over (Contains-from_among (nets_named s check.0) net p)) (subst (λ (ns : List ℕ). is_among ns net ≡ true) (sym same) p)))
+          (builds.built (net_table c s) (can_build c s named plan v over good sound accepted letters planned)));
     }

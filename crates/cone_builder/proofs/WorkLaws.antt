@@ -30,9 +30,11 @@ use Rattle.diagram.specs.View.{View, Keeps}
 use Rattle.diagram.proofs.CallLaws.{causes_of}
 use Rattle.word_apply.specs.Applied.{IsOfAll, formula_at, formula_work_at}
 use Rattle.cone_builder.specs.Built.{AreBuilt, AreGates, AreVariables, ComeAfter, NetsAreBuilt, is_marked, or_listed}
-use Rattle.cone_builder.specs.Causes.{Includes}
+use Rattle.cone_builder.specs.Causes.{Includes, limit_met}
+use Rattle.cone_builder.specs.Plans.{BuildsPlan, CoversPlan, IsPlanOf, PlainPlan, is_needed}
+use Rattle.cone_builder.specs.declared.build_error.BuildError.{BuildError}
 use Rattle.cone_builder.proofs.CauseLaws.{causes_included, causes_on}
-use Rattle.cone_builder.proofs.NetLaws.{are_gates, are_variables, come_after, if_some_at, if_some_from}
+use Rattle.cone_builder.proofs.NetLaws.{can_build, if_some_at, if_some_from}
 use Rattle.cone_builder.proofs.SideLaws.{named_are_built, side_answers}
 
 -- ---- membership
@@ -113,25 +115,27 @@ input_included c s check named marks ps net over good same tells includes marked
         (map-has (net_table c s) inputs net
         (filter-has (is_in_cone c (nets_named s check)) (range_with_len 0 (input_count c)) net (range-has (input_count c) net low) within))
 
--- what the building of nets asks of the work
-abbrev pub IntoCauses : {X : Type 0} → KindName → Circuit → View → View → List ℕ → List Bool → List ℕ → Result X Limit → Type 0
-IntoCauses k c v w order marks gates r =
-    (table : ℕ → Table) (ps : List Piece) → AreVariables v order table → AreGates c table → ComeAfter c (is_marked order marks) gates →
-    ((net : ℕ) → is_marked order marks net ≡ true → Includes ps (pieces 0 (table net ∷ []))) →
-    ((net : ℕ) → Contains gates net → Includes ps (net_work c v.letters table net)) → Causes k v w ps r
+covers_plan : (c : Circuit) (s : Specification) (check : Check) (named : List ℕ) (plan : PlainPlan) (v : View) (ps : List Piece) → IsOver c s → IsWellFormed s →
+    v.letters ≡ s.letters → named ≡ nets_named s check → IsPlanOf c s named plan → Includes ps (input_work c s check) → Includes ps (cone_work c s check) →
+    CoversPlan c v plan (net_table c s) ps
+covers_plan c s check named plan v ps over good letters same is inputs works =
+    record {
+      inputs = λ net needed.
+          input_included c s check named plan.marks ps net over good same is.marks inputs
+          (subst (λ (order : List ℕ). is_needed (record plan { order = order }) net ≡ true) is.order needed);
+      gates = λ net has.
+          subst (λ ds. Includes ps (net_work c ds (net_table c s) net)) (sym letters)
+          (included_on ps (cone_work c s check) (net_work c s.letters (net_table c s) net) works
+          (flat_map-includes (net_work c s.letters (net_table c s)) (cone c (nets_named s check)) net
+          (subst (λ (ns : List ℕ). Contains ns net) (is.gates ∙ ap (cone c) same) has)));
+    }
 
-pub nets_caused : {X : Type 0} (k : KindName) (c : Circuit) (s : Specification) (check : Check) (named gates : List ℕ) (marks : List Bool) (v w : View) (r : Result X Limit) (ps : List Piece) →
-    IsOver c s → IsWellFormed s → IsSound c → IsAccepted c → v.letters ≡ s.letters → named ≡ nets_named s check →
-    ((n : ℕ) → n < net_count c → bit_of marks n ≡ is_in_cone c named n) → gates ≡ cone c named → IntoCauses k c v w s.order marks gates r →
-    Includes ps (input_work c s check) → Includes ps (cone_work c s check) → Causes k v w ps r
-nets_caused k c s check named gates marks v w r ps over good sound accepted letters same tells cone_is call inputs works =
-    call (net_table c s) ps (are_variables c s v over good letters) (are_gates c s sound accepted) (come_after c s named gates marks over good accepted tells cone_is)
-    (λ net marked. input_included c s check named marks ps net over good same tells inputs marked)
-    (λ net has.
-    subst (λ ds. Includes ps (net_work c ds (net_table c s) net)) (sym letters)
-    (included_on ps (cone_work c s check) (net_work c s.letters (net_table c s) net) works
-    (flat_map-includes (net_work c s.letters (net_table c s)) (cone c (nets_named s check)) net
-    (subst (λ (ns : List ℕ). Contains ns net) (cone_is ∙ ap (cone c) same) has))))
+pub nets_caused : {X : Type 0} (k : KindName) (c : Circuit) (s : Specification) (check : Check) (named : List ℕ) (plan : PlainPlan) (v w : View) (edges : List PlainEdge)
+    (r : Result X BuildError) (ps : List Piece) → IsOver c s → IsWellFormed s → IsSound c → IsAccepted c → v.letters ≡ s.letters → named ≡ nets_named s check →
+    IsPlanOf c s named plan → BuildsPlan k c v w plan edges r → Includes ps (input_work c s check) → Includes ps (cone_work c s check) → Causes k v w ps (limit_met r)
+nets_caused k c s check named plan v w edges r ps over good sound accepted letters same is builds inputs works =
+    builds.causes (net_table c s) ps (can_build c s named plan v over good sound accepted letters is)
+    (covers_plan c s check named plan v ps over good letters same is inputs works)
 
 -- ---- words
 -- what the building of words asks of the work

@@ -1,3 +1,4 @@
 pub mod Built
 pub mod Causes
+pub mod Plans
 pub mod Sides

@@ -1,22 +1,23 @@
-ghost use Rattle.std.specs.Prelude.{◌≡◌, ℕ, ◌<◌, ◌≤◌, true, List, [], ◌∷◌, length, All, Contains, IfOk, OnOk, IfSome, Some, slice_get};
-ghost use Rattle.checks.specs.Forward.{building_work, cone_work, input_work, net_work};
-ghost use Rattle.cone_builder.specs.Built.{AreBuilt, AreGates, AreVariables, ComeAfter, NetsAreBuilt, is_marked, or_listed};
+ghost use Rattle.std.specs.Prelude.{◌≡◌, ◌<◌, ◌≤◌, List, length, IfOk, IfSome, Some, slice_get};
+ghost use Rattle.checks.specs.Forward.{building_work, cone_work, input_work};
+ghost use Rattle.circuits.specs.Circuit.{input_count, net_count};
+ghost use Rattle.circuits.specs.Sound.{IsSound};
+ghost use Rattle.cone_builder.specs.Built.{NetsAreBuilt};
 ghost use Rattle.cone_builder.specs.Causes.{Includes, limit_met};
+ghost use Rattle.cone_builder.specs.Plans.{BuildsPlan, IsPlan, plain_plan};
 ghost use Rattle.cone_builder.specs.Sides.{AreSides};
 ghost use Rattle.diagram.specs.Answers.{Causes};
 ghost use Rattle.diagram.specs.View.{View, Keeps};
-ghost use Rattle.circuits.specs.Circuit.{IsGate, input_count, net_count};
-ghost use Rattle.circuits.specs.Sound.{IsSound};
+ghost use Rattle.kind_laws.specs.Plain.{plain};
 ghost use Rattle.spec_lang.specs.Specification.{Check};
 ghost use Rattle.spec_lang.specs.WellFormed.{IsOver};
-ghost use Rattle.tables.specs.Pieces.{Piece, pieces};
-ghost use Rattle.tables.specs.Table.{Table};
-ghost use Rattle.kind_laws.specs.Plain.{plain};
+ghost use Rattle.tables.specs.Pieces.{Piece};
 ghost use Rattle.word_apply.specs.Applied.{AreEdges, plain_edges};
 
 use crate::build_error::BuildError;
 use crate::gates::build_gates;
 use crate::inputs::{build_inputs, repeated};
+use crate::plan::Plan;
 use crate::words::build_words;
 use diagram::Builder;
 use kind_laws::{Edge, Kind};
@@ -27,37 +28,25 @@ use std::alloc::Global;
 use word_apply::expression;
 use word_base::Weight;
 
-/// Builds the marked inputs, and the gates in topological order.
+/// Builds the inputs that are needed, and the gates in their order.
 fn build_into<K: Kind, S: Store>(
     alloc: Global,
     builder: &mut Builder<K, S>,
     netlist: &Netlist,
-    order: &[u32],
-    marks: &[bool],
-    gates: &[u32],
+    plan: Plan<'_>,
     edges: &mut [Edge<K>],
 ) -> Result<(), BuildError>
     requires sound { IsSound netlist.now }
-    requires order { length order.now ≡ input_count netlist.now }
-    requires inputs { All (λ net. net < input_count netlist.now) order.now }
-    requires levels { length order.now ≤ length builder.old.letters }
-    requires marks { length marks.now ≡ net_count netlist.now }
-    requires gates { All (IsGate netlist.now) gates.now }
+    requires plan { IsPlan netlist.now (plain_plan plan) }
+    requires levels { input_count netlist.now ≤ length builder.old.letters }
     requires many { length edges.old ≡ net_count netlist.now }
     requires good { AreEdges K.NAME builder.old (plain_edges K.extra_of edges.old) }
     ensures keeps { Keeps builder.old builder.new }
-    ensures good { OnOk result (AreEdges K.NAME builder.new (plain_edges K.extra_of edges.new)) }
-    ensures built { OnOk result ((table : ℕ → Table) → AreVariables builder.old order.now table → AreGates netlist.now table →
-        ComeAfter netlist.now (is_marked order.now marks.now) gates.now →
-        AreBuilt K.NAME builder.new table (or_listed (is_marked order.now marks.now) gates.now) (plain_edges K.extra_of edges.new)) }
-    ensures causes { (table : ℕ → Table) (ps : List Piece) → AreVariables builder.old order.now table → AreGates netlist.now table →
-        ComeAfter netlist.now (is_marked order.now marks.now) gates.now →
-        ((net : ℕ) → is_marked order.now marks.now net ≡ true → Includes ps (pieces 0 (table net ∷ []))) →
-        ((net : ℕ) → Contains gates.now net → Includes ps (net_work netlist.now builder.old.letters table net)) → Causes K.NAME builder.old builder.new ps (limit_met result) }
+    ensures builds { BuildsPlan K.NAME netlist.now builder.old builder.new (plain_plan plan.entry) (plain_edges K.extra_of edges.new) result }
 {
-    build_inputs(builder, order, marks, edges)?;
+    build_inputs(builder, plan.order, plan.marks, edges)?;
     let mut inputs = Vec::new(alloc);
-    build_gates(builder, netlist, gates, edges, &mut inputs)
+    build_gates(builder, netlist, plan.gates, edges, &mut inputs)
 }
 
 /// The edge of each net that the check needs, by its number.
@@ -81,15 +70,12 @@ fn build_nets<K: Kind, S: Store>(
     let marks = netlist.reached(&named)?;
     let gates = netlist.cone(&named)?;
     let mut edges = repeated(alloc, builder.constant(Weight::ZERO), count)?;
-    build_into(
-        alloc,
-        builder,
-        netlist,
-        spec.order(),
-        &marks,
-        &gates,
-        edges.as_mut_slice(),
-    )?;
+    let plan = Plan {
+        order: spec.order(),
+        marks: &marks,
+        gates: &gates,
+    };
+    build_into(alloc, builder, netlist, plan, edges.as_mut_slice())?;
     Ok(edges)
 }
 

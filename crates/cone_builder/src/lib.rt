@@ -8,6 +8,7 @@ mod build_error;
 mod expressions;
 mod gates;
 mod inputs;
+mod plan;
 mod words;
 
 pub use build_error::BuildError;
