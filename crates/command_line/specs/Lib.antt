@@ -1,0 +1,4 @@
+pub mod Apps
+pub mod Found
+pub mod PlainWords
+pub mod Commands
