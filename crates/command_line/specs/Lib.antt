@@ -2,3 +2,4 @@ pub mod Apps
 pub mod Found
 pub mod PlainWords
 pub mod Commands
+pub mod Taken
