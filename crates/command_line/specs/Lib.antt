@@ -3,3 +3,4 @@ pub mod Found
 pub mod PlainWords
 pub mod Commands
 pub mod Taken
+pub mod Examples
