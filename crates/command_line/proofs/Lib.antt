@@ -1,2 +1,3 @@
+mod FoundLaws
 mod PlainLaws
 mod TakenLaw

@@ -1,56 +1,67 @@
 -- Values that say something are read in the words of plain form.
-use Rattle.std.proofs.Common.{◌≡◌, ◌<◌, ◌++◌, ◌∙◌, ap, sym, refl, arith, append_assoc, codes, length, true, List, [], ◌∷◌, Option, Some, None}
-use Rattle.std.specs.Prelude.{ℕ, IsSome}
+use Rattle.std.proofs.Common.{◌≡◌, ◌<◌, ◌++◌, ◌∙◌, ap, sym, refl, arith, append_assoc, lit<, codes, length, true, List, [], ◌∷◌, Option, Some, None}
+use Rattle.std.specs.Prelude.{ℕ, if◌then◌else◌, unwrap_or}
 use Rattle.std.specs.Option.{option_and_then, option_map}
-use Rattle.checks.specs.declared.method.Method.{Method}
+use Rattle.checks.specs.declared.Method.{Method}
+use Rattle.checks.specs.declared.Method.TheVariants.{Forward}
 use Rattle.clap.specs.Words.{Row, Text, first_of}
 use Rattle.settings.specs.Commands.{PlainCommand, check, gen, check_of, command_by, command_of as in_plain_form}
-use Rattle.settings.specs.Limits.{settings_of}
+use Rattle.settings.specs.Limits.{is_within, settings_of, with_usual}
 use Rattle.settings.specs.Numbers.{number_of, size_of}
 use Rattle.settings.specs.Pairs.{nothing, pairs, with_pair}
 use Rattle.settings.specs.Words.{is_name, kind_of, method_of}
-use Rattle.settings.specs.declared.command.Settings.{Settings}
-use Rattle.settings.specs.declared.given.Given.{Given}
-use Rattle.word_base.specs.declared.kind_name.KindName.{KindName}
+use Rattle.settings.specs.declared.Settings.{Settings}
+use Rattle.word_base.specs.declared.KindName.{KindName}
+use Rattle.word_base.specs.declared.KindName.TheVariants.{StarBmd}
 use Rattle.command_line.specs.PlainWords.{check_words, gen_words, pair_of, pairs_of, word_of}
-use Rattle.command_line.specs.Taken.{Says, SayName, SayOptions, SaySettings, SaySize}
+use Rattle.command_line.specs.Taken.{Says, SayName, SaySettings, SaySize}
+
+-- the type of what is given, which its crate keeps to itself
+abbrev TypeOf : {T : Type 0} → T → Type 0
+TypeOf {T} value = T
+
+abbrev Given : Type 0
+Given = TypeOf nothing
 
 -- a pair, if there is one, leads from one given to another
 abbrev Adds : Given → Text → Option Text → Given → Type 0
 Adds given option None more = more ≡ given
 Adds given option (Some value) more = with_pair given option value ≡ Some more
 
-says_one : {T : Type 0} → (f : Option T → Given) (value meaning : Option T) → IsSome meaning → value ≡ meaning
-    → option_map (λ x. f (Some x)) value ≡ Some (f meaning)
-says_one f value None some is = absurd some
-says_one f value (Some x) some is = ap (option_map (λ x. f (Some x))) is
+-- the meaning of an option, where a value is found
+abbrev meant : {T : Type 0} → Option Text → T → Option T
+meant None meaning = None
+meant (Some value) meaning = Some meaning
 
-adds_kind : (value : Option Text) (kind : Option KindName) → Says kind_of value kind
-    → Adds nothing (codes "--kind") value (record nothing { kind = kind })
-adds_kind None kind says = ap (λ k. record nothing { kind = k }) says
-adds_kind (Some value) kind says = says_one (λ k. record nothing { kind = k }) (kind_of value) kind says.0 says.1
+meant_or_usual : {T : Type 0} → (read : Text → Option T) (usual : T) (value : Option Text) (meaning : T) → Says read usual value meaning
+    → unwrap_or (meant value meaning) usual ≡ meaning
+meant_or_usual read usual None meaning says = sym says
+meant_or_usual read usual (Some value) meaning says = refl
 
-adds_method : (kind : Option KindName) (value : Option Text) (method : Option Method) → Says method_of value method
-    → Adds (record nothing { kind = kind }) (codes "--method") value (record nothing { kind = kind; method = method })
-adds_method kind None method says = ap (λ m. record nothing { kind = kind; method = m }) says
-adds_method kind (Some value) method says =
-    says_one (λ m. record nothing { kind = kind; method = m }) (method_of value) method says.0 says.1
+adds_kind : (value : Option Text) (kind : KindName) → Says kind_of StarBmd value kind
+    → Adds nothing (codes "--kind") value (record nothing { kind = meant value kind })
+adds_kind None kind says = refl
+adds_kind (Some value) kind says = ap (option_map (λ (k : KindName). record nothing { kind = Some k })) says
 
-adds_workers : (kind : Option KindName) (method : Option Method) (value : Option Text) (workers : Option ℕ) → Says number_of value workers
-    → Adds (record nothing { kind = kind; method = method }) (codes "--workers") value
-    (record nothing { kind = kind; method = method; workers = workers })
-adds_workers kind method None workers says = ap (λ n. record nothing { kind = kind; method = method; workers = n }) says
-adds_workers kind method (Some value) workers says =
-    says_one (λ n. record nothing { kind = kind; method = method; workers = n }) (number_of value) workers says.0 says.1
+adds_method : (k : Option KindName) (value : Option Text) (method : Method) → Says method_of Forward value method
+    → Adds (record nothing { kind = k }) (codes "--method") value (record nothing { kind = k; method = meant value method })
+adds_method k None method says = refl
+adds_method k (Some value) method says = ap (option_map (λ (m : Method). record nothing { kind = k; method = Some m })) says
 
-adds_cells : (kind : Option KindName) (method : Option Method) (workers : Option ℕ) (value : Option Text) (cells : Option ℕ)
-    → Says number_of value cells
-    → Adds (record nothing { kind = kind; method = method; workers = workers }) (codes "--cells") value
-    (record { kind = kind; method = method; workers = workers; cells = cells })
-adds_cells kind method workers None cells says =
-    ap (λ n. record nothing { kind = kind; method = method; workers = workers; cells = n }) says
-adds_cells kind method workers (Some value) cells says =
-    says_one (λ n. record nothing { kind = kind; method = method; workers = workers; cells = n }) (number_of value) cells says.0 says.1
+adds_workers : (k : Option KindName) (m : Option Method) (value : Option Text) (workers : ℕ) → Says number_of 1 value workers
+    → Adds (record nothing { kind = k; method = m }) (codes "--workers") value
+    (record nothing { kind = k; method = m; workers = meant value workers })
+adds_workers k m None workers says = refl
+adds_workers k m (Some value) workers says =
+    ap (option_map (λ (n : ℕ). record nothing { kind = k; method = m; workers = Some n })) says
+
+adds_cells : (k : Option KindName) (m : Option Method) (w : Option ℕ) (value : Option Text) (cells : ℕ)
+    → Says number_of 262144 value cells
+    → Adds (record nothing { kind = k; method = m; workers = w }) (codes "--cells") value
+    (record nothing { kind = k; method = m; workers = w; cells = meant value cells })
+adds_cells k m w None cells says = refl
+adds_cells k m w (Some value) cells says =
+    ap (option_map (λ (n : ℕ). record nothing { kind = k; method = m; workers = w; cells = Some n })) says
 
 -- pairs that others follow
 one_pair : (option : Text) (value : Option Text) (given more : Given) (rest : List Text) → 0 < length rest → Adds given option value more
@@ -66,9 +77,18 @@ longer option (Some value) rest some = omega arith
 regrouped : (a b c d e : List Text) → (((a ++ b) ++ c) ++ d) ++ e ≡ a ++ (b ++ (c ++ (d ++ e)))
 regrouped a b c d e = simp append_assoc
 
-pairs_said : (rows : List Row) (given : Given) → SayOptions rows given → (last : List Text) → 0 < length last
-    → pairs nothing (pairs_of rows ++ last) ≡ pairs given last
-pairs_said rows given says last some =
+-- what the options give
+abbrev given_by : List Row → Settings → Given
+given_by rows settings = record nothing {
+  kind = meant (first_of (codes "kind") rows) settings.kind;
+  method = meant (first_of (codes "method") rows) settings.method;
+  workers = meant (first_of (codes "workers") rows) settings.workers;
+  cells = meant (first_of (codes "cells") rows) settings.cells;
+}
+
+pairs_said : (rows : List Row) (settings : Settings) → SaySettings rows settings → (last : List Text) → 0 < length last
+    → pairs nothing (pairs_of rows ++ last) ≡ pairs (given_by rows settings) last
+pairs_said rows settings says last some =
     let kind = first_of (codes "kind") rows in
     let method = first_of (codes "method") rows in
     let workers = first_of (codes "workers") rows in
@@ -79,12 +99,29 @@ pairs_said rows given says last some =
     let some_fourth : 0 < length fourth = longer (codes "--cells") cells last some in
     let some_third : 0 < length third = longer (codes "--workers") workers fourth some_fourth in
     let some_second : 0 < length second = longer (codes "--method") method third some_third in
+    let k = meant kind settings.kind in
+    let m = meant method settings.method in
+    let w = meant workers settings.workers in
     ap (pairs nothing) (regrouped (pair_of (codes "--kind") kind) (pair_of (codes "--method") method)
     (pair_of (codes "--workers") workers) (pair_of (codes "--cells") cells) last)
-    ∙ one_pair (codes "--kind") kind _ _ second some_second (adds_kind kind given.kind says.kind)
-    ∙ one_pair (codes "--method") method _ _ third some_third (adds_method given.kind method given.method says.method)
-    ∙ one_pair (codes "--workers") workers _ _ fourth some_fourth (adds_workers given.kind given.method workers given.workers says.workers)
-    ∙ one_pair (codes "--cells") cells _ _ last some (adds_cells given.kind given.method given.workers cells given.cells says.cells)
+    ∙ one_pair (codes "--kind") kind _ _ second some_second (adds_kind kind settings.kind says.kind)
+    ∙ one_pair (codes "--method") method _ _ third some_third (adds_method k method settings.method says.method)
+    ∙ one_pair (codes "--workers") workers _ _ fourth some_fourth (adds_workers k m workers settings.workers says.workers)
+    ∙ one_pair (codes "--cells") cells _ _ last some (adds_cells k m w cells settings.cells says.cells)
+
+with_usual_said : (rows : List Row) (settings : Settings) → SaySettings rows settings → with_usual (given_by rows settings) ≡ settings
+with_usual_said rows settings says =
+    let kind = meant_or_usual kind_of StarBmd (first_of (codes "kind") rows) settings.kind says.kind in
+    let method = meant_or_usual method_of Forward (first_of (codes "method") rows) settings.method says.method in
+    let workers = meant_or_usual number_of 1 (first_of (codes "workers") rows) settings.workers says.workers in
+    let cells = meant_or_usual number_of 262144 (first_of (codes "cells") rows) settings.cells says.cells in
+    rw (kind, method, workers, cells) refl
+
+settings_said : (rows : List Row) (settings : Settings) → SaySettings rows settings
+    → settings_of (given_by rows settings) ≡ Some settings
+settings_said rows settings says =
+    ap (λ (s : Settings). if is_within s.workers s.cells then Some s else None) (with_usual_said rows settings says)
+    ∙ (rw says.within refl)
 
 -- a command word, pairs and last words
 abbrev read_front : Text → Option (Given × List Text) → Option PlainCommand
@@ -95,8 +132,8 @@ front_said : (command : Text) (rows : List Row) (settings : Settings) → SaySet
     → (last : List Text) → 0 < length last → ((given : Given) → pairs given last ≡ Some (given, last))
     → in_plain_form (command ∷ (pairs_of rows ++ last)) ≡ command_by command settings last
 front_said command rows settings says last some ends =
-    ap (read_front command) (pairs_said rows says.given says.options last some ∙ ends says.given)
-    ∙ ap (option_and_then (λ s. command_by command s last)) says.within
+    ap (read_front command) (pairs_said rows settings says last some ∙ ends (given_by rows settings))
+    ∙ ap (option_and_then (λ s. command_by command s last)) (settings_said rows settings says)
 
 named : (settings : Settings) (netlist spec : Text) → is_name netlist ≡ true → is_name spec ≡ true
     → check_of (codes "check") settings netlist spec ≡ Some (check settings netlist spec)

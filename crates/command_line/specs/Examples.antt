@@ -1,11 +1,10 @@
 -- Examples of words in another order.
 use Rattle.std.specs.Prelude.{◌≡◌, List, [], ◌∷◌, codes, Some, None, true, refl}
-use Rattle.checks.specs.declared.method.Method.TheVariants.{Forward, Backward}
-use Rattle.clap.specs.Words.{Text, is_simple_and_free}
+use Rattle.checks.specs.declared.Method.TheVariants.{Forward}
 use Rattle.clap.proofs.OnLiterals.{clap_on_literals}
 use Rattle.settings.specs.Commands.{check, gen}
-use Rattle.settings.specs.declared.command.Settings.{Settings}
-use Rattle.word_base.specs.declared.kind_name.KindName.TheVariants.{StarBmd, Hdd}
+use Rattle.settings.specs.declared.Settings.{Settings}
+use Rattle.word_base.specs.declared.KindName.TheVariants.{StarBmd, Hdd}
 use Rattle.command_line.specs.Apps.{check_app, gen_app}
 use Rattle.command_line.specs.Commands.{command_of}
 use Rattle.command_line.specs.Found.{found}
@@ -59,12 +58,3 @@ no_version = refl
 
 another_word : command_of (codes "prove" ∷ codes "--kind=hdd" ∷ codes "n" ∷ codes "s" ∷ []) ≡ None
 another_word = refl
-
--- clap tells exactly what it finds in the words of such commands
-check_is_told : is_simple_and_free check_app ≡ true
-unfolding check_app
-check_is_told = refl
-
-gen_is_told : is_simple_and_free gen_app ≡ true
-unfolding gen_app
-gen_is_told = refl

@@ -1,32 +1,29 @@
 -- Words that are taken: clap promises that want of memory alone can refuse them, and each value that it finds is one that plain form allows
 -- in its place.
 use Rattle.std.specs.Prelude.{◌≡◌, ℕ, true, IsSome, List, [], ◌∷◌, codes, Option, Some, None}
+use Rattle.checks.specs.declared.Method.TheVariants.{Forward}
 use Rattle.clap.specs.Words.{App, Row, Text, fault_of, first_of, matches_of}
 use Rattle.settings.specs.Commands.{PlainCommand, check, gen, command_of as in_plain_form}
-use Rattle.settings.specs.Limits.{settings_of}
+use Rattle.settings.specs.Limits.{is_within}
 use Rattle.settings.specs.Numbers.{number_of, size_of}
 use Rattle.settings.specs.Words.{is_name, kind_of, method_of}
-use Rattle.settings.specs.declared.command.Settings.{Settings}
-use Rattle.settings.specs.declared.given.Given.{Given}
+use Rattle.settings.specs.declared.Settings.{Settings}
+use Rattle.word_base.specs.declared.KindName.TheVariants.{StarBmd}
 use Rattle.command_line.specs.Apps.{check_app, gen_app}
 use Rattle.command_line.specs.Commands.{command_of}
 
--- what a value says, if one is found: plain form has to allow it
-abbrev pub Says : {T : Type 0} → (Text → Option T) → Option Text → Option T → Type 0
-Says read None meaning = meaning ≡ None
-Says read (Some value) meaning = IsSome meaning × (read value ≡ meaning)
+-- what an option says: the usual where no value is found, and else a value that plain form has to allow
+abbrev pub Says : {T : Type 0} → (Text → Option T) → T → Option Text → T → Type 0
+Says read usual None meaning = meaning ≡ usual
+Says read usual (Some value) meaning = read value ≡ Some meaning
 
--- what the values of the options say
-pub record SayOptions (rows : List Row) (given : Given) : Type 0 where
-  pub kind : Says kind_of (first_of (codes "kind") rows) given.kind
-  pub method : Says method_of (first_of (codes "method") rows) given.method
-  pub workers : Says number_of (first_of (codes "workers") rows) given.workers
-  pub cells : Says number_of (first_of (codes "cells") rows) given.cells
-
+-- the options say these settings, which are within the limits
 pub record SaySettings (rows : List Row) (settings : Settings) : Type 0 where
-  pub given : Given
-  pub options : SayOptions rows given
-  pub within : settings_of given ≡ Some settings
+  pub kind : Says kind_of StarBmd (first_of (codes "kind") rows) settings.kind
+  pub method : Says method_of Forward (first_of (codes "method") rows) settings.method
+  pub workers : Says number_of 1 (first_of (codes "workers") rows) settings.workers
+  pub cells : Says number_of 262144 (first_of (codes "cells") rows) settings.cells
+  pub within : is_within settings.workers settings.cells ≡ true
 
 pub record SayName (rows : List Row) (place name : Text) : Type 0 where
   pub value : first_of place rows ≡ Some name
