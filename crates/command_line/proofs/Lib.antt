@@ -1,0 +1,3 @@
+mod FoundLaws
+mod PlainLaws
+mod TakenLaw

@@ -1,0 +1,6 @@
+pub mod Apps
+pub mod Found
+pub mod PlainWords
+pub mod Commands
+pub mod Taken
+pub mod Examples
