@@ -2,7 +2,7 @@ ghost use Rattle.std.specs.Prelude.{◌≡◌, ◌≤◌, ◌-◌, ◌*◌, leng
 ghost use Rattle.multiplier.specs.Adders.{gates};
 ghost use Rattle.multiplier.specs.Nets.{inputs};
 
-use settings::{LEAST_SIZE, MOST_SIZE};
+use crate::size::{LEAST_SIZE, MOST_SIZE};
 
 /// How many inputs the multiplier of two words of `size` bits has.
 pub fn input_count(size: u32) -> u32

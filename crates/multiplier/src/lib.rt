@@ -13,8 +13,11 @@ mod counts;
 mod gate;
 mod net;
 mod nets;
+mod size;
+#[cfg(test)]
+mod tests;
 mod texts;
 
-
 pub use counts::{gate_count, input_count};
+pub use size::{LEAST_SIZE, MOST_SIZE};
 pub use texts::generate;

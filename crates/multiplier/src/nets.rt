@@ -34,12 +34,14 @@ pub(crate) fn product(alloc: Global, size: u32) -> Result<Vec<Net>, AllocError>
     ensures { IfOk result (λ nets. nets.items ≡ product size) }
 {
     let last = size - 1;
-    once(Net::Partial { column: 0, row: 0 })
-        .chain((1..size).map(|row| Net::Sum { row, column: 0 }))
+    let lowest = once(Net::Partial { column: 0, row: 0 })
+        .chain((1..size).map(|row| Net::Sum { row, column: 0 }));
+    let mut nets: Vec<Net> = lowest
         .chain((1..size).map(|column| Net::Sum { row: last, column }))
-        .chain(once(Net::Carry {
-            row: last,
-            column: last,
-        }))
-        .collect(alloc)
+        .collect(alloc)?;
+    nets.push(Net::Carry {
+        row: last,
+        column: last,
+    })?;
+    Ok(nets)
 }
