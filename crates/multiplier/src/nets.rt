@@ -34,14 +34,12 @@ pub(crate) fn product(alloc: Global, size: u32) -> Result<Vec<Net>, AllocError>
     ensures { IfOk result (λ nets. nets.items ≡ product size) }
 {
     let last = size - 1;
-    let lowest = once(Net::Partial { column: 0, row: 0 })
-        .chain((1..size).map(|row| Net::Sum { row, column: 0 }));
-    let mut nets: Vec<Net> = lowest
+    once(Net::Partial { column: 0, row: 0 })
+        .chain((1..size).map(|row| Net::Sum { row, column: 0 }))
         .chain((1..size).map(|column| Net::Sum { row: last, column }))
-        .collect(alloc)?;
-    nets.push(Net::Carry {
-        row: last,
-        column: last,
-    })?;
-    Ok(nets)
+        .chain(once(Net::Carry {
+            row: last,
+            column: last,
+        }))
+        .collect(alloc)
 }
