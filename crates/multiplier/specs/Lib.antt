@@ -1,0 +1,4 @@
+pub mod Nets
+pub mod Gates
+pub mod Adders
+pub mod Texts
