@@ -1,37 +1,28 @@
 -- What is taken from an edge, a factor or a summand, and the edge with it put back.
-use Rattle.std.specs.Prelude.{◌≡◌, ℕ, zero, suc, ℤ, pos, negsuc, ◌+ℤ◌, ◌*ℤ◌, true, int_div, Result, refl}
+use Rattle.std.specs.Prelude.{◌≡◌, ℕ, zero, suc, ℤ, pos, negsuc, true, Result, refl}
 use Rattle.std.specs.Result.{OkIff}
-use Rattle.integers.specs.Gcd.{signed_gcd}
+use Rattle.std.specs.Bool.{MatchBool}
 use Rattle.word_base.specs.declared.kind_name.KindName.{KindName}
 use Rattle.word_base.specs.declared.kind_name.KindName.TheVariants.{Evbdd, StarBmd, Hdd, KStarBmd}
 use Rattle.word_base.specs.declared.weight.Overflow.{Overflow}
 use Rattle.tables.specs.Tree.{Weights}
+use Rattle.tables.specs.Factors.{IsSummand, factor_of, has_factor, scaled_weights, shifted_weights, summand_of, unscaled_weights, unshifted_weights}
 use Rattle.tables.specs.Fits.{weights_in_range}
 use Rattle.kind_laws.specs.Plain.{PlainEdge, plain_edge}
 
 -- ---- factors
 
--- the factor of an edge: 1 in a kind that has no multiplicative weight
+-- the factor of an edge is that of its root
 abbrev pub scale_of : KindName → Weights → ℤ
-scale_of Evbdd w = pos 1
-scale_of StarBmd w = w.weight
-scale_of Hdd w = pos 1
-scale_of KStarBmd w = signed_gcd w.weight w.extra (pos 0)
+scale_of = factor_of
 
 -- the edge that is left without its factor
 abbrev pub unscaled : KindName → PlainEdge → PlainEdge
-unscaled Evbdd e = e
-unscaled StarBmd e = plain_edge (pos 1) (pos 0) e.node
-unscaled Hdd e = e
-unscaled KStarBmd e =
-    let g = scale_of KStarBmd e.root in plain_edge (int_div e.root.weight g) (int_div e.root.extra g) e.node
+unscaled k e = record { root = unscaled_weights k e.root; node = e.node }
 
--- the factors that an edge of the kind can take
+-- the factors that an edge of the kind can take: 0 too, where it multiplies
 abbrev pub MayScale : KindName → ℤ → Type 0
-MayScale Evbdd s = s ≡ pos 1
-MayScale StarBmd s = Unit {0}
-MayScale Hdd s = s ≡ pos 1
-MayScale KStarBmd s = Unit {0}
+MayScale k s = MatchBool (has_factor k) (Unit {0}) (s ≡ pos 1)
 
 -- what 0 times an edge leads to is the leaf
 abbrev pub scaled_node : ℤ → ℕ → ℕ
@@ -42,39 +33,27 @@ scaled_node (negsuc s) n = n
 -- the edge of the multiple
 abbrev pub scaled : KindName → ℤ → PlainEdge → PlainEdge
 scaled Evbdd s e = e
-scaled StarBmd s e = plain_edge (s *ℤ e.root.weight) (pos 0) (scaled_node s e.node)
+scaled StarBmd s e = record { root = scaled_weights StarBmd s e.root; node = scaled_node s e.node }
 scaled Hdd s e = e
-scaled KStarBmd s e = plain_edge (s *ℤ e.root.weight) (s *ℤ e.root.extra) (scaled_node s e.node)
+scaled KStarBmd s e = record { root = scaled_weights KStarBmd s e.root; node = scaled_node s e.node }
 
 -- ---- summands
 
--- the summand of an edge: 0 in a kind that has no additive weight
+-- the summand of an edge is that of its root
 abbrev pub shift_of : KindName → Weights → ℤ
-shift_of Evbdd w = w.weight
-shift_of StarBmd w = pos 0
-shift_of Hdd w = pos 0
-shift_of KStarBmd w = w.extra
+shift_of = summand_of
 
 -- the edge that is left without its summand
 abbrev pub unshifted : KindName → PlainEdge → PlainEdge
-unshifted Evbdd e = plain_edge (pos 0) (pos 0) e.node
-unshifted StarBmd e = e
-unshifted Hdd e = e
-unshifted KStarBmd e = plain_edge e.root.weight (pos 0) e.node
+unshifted k e = record { root = unshifted_weights k e.root; node = e.node }
 
 -- the summands that an edge of the kind can take
 abbrev pub MayShift : KindName → ℤ → Type 0
-MayShift Evbdd c = Unit {0}
-MayShift StarBmd c = c ≡ pos 0
-MayShift Hdd c = c ≡ pos 0
-MayShift KStarBmd c = Unit {0}
+MayShift = IsSummand
 
 -- the edge of the sum
 abbrev pub shifted : KindName → ℤ → PlainEdge → PlainEdge
-shifted Evbdd c e = plain_edge (c +ℤ e.root.weight) (pos 0) e.node
-shifted StarBmd c e = e
-shifted Hdd c e = e
-shifted KStarBmd c e = plain_edge e.root.weight (c +ℤ e.root.extra) e.node
+shifted k c e = record { root = shifted_weights k c e.root; node = e.node }
 
 -- ---- answers
 
