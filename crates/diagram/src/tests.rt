@@ -221,19 +221,30 @@ fn check_lines<K: Kind>(rt: &impl Abort, builder: &mut Builder<K, SoloStore>) ->
     Ok(())
 }
 
+/// Two terms that are added one after the other to `-m + (m - 2)*x`, where `m` is the greatest weight.
+fn added_to_line<K: Kind>(
+    rt: &impl Abort,
+    builder: &mut Builder<K, SoloStore>,
+    second: &Term,
+    third: &Term,
+) -> Result<Edge<K>, Limit> {
+    let least = Term::Constant(Weight::MAX.neg());
+    let step = Term::Multiple(Weight::MAX.sub(Weight::TWO)?, &X);
+    let line = Term::Sum(&least, &step);
+    let sum = Term::Sum(&line, second);
+    Term::Sum(&sum, third).edge(rt, builder)
+}
+
 /// The entries `-m`, `-m + 1`, `-2` and `m - 1`, of which the last one is out of range without the first.
 fn check_far_entries<K: Kind>(
     rt: &impl Abort,
     builder: &mut Builder<K, SoloStore>,
 ) -> Result<(), Fail> {
-    let first = Term::Constant(Weight::MAX.neg());
-    let step = Term::Multiple(Weight::MAX.sub(Weight::TWO)?, &X);
-    let line = Term::Sum(&first, &step);
     let product = Term::Product(&X, &Y);
     let last = Term::Multiple(Weight::MAX, &product);
-    let before = Term::Sum(&line, &last);
-    let after = Term::Sum(&line, &Y);
-    assert!(rt; are_same(rt, builder, &Term::Sum(&before, &Y), &Term::Sum(&after, &last))?);
+    let before = added_to_line(rt, builder, &last, &Y)?;
+    let after = added_to_line(rt, builder, &Y, &last)?;
+    assert!(rt; builder.same(before, after));
     Ok(())
 }
 
