@@ -33,9 +33,9 @@ multiple_covers_table k ds l s t factor =
         whole,
         (0, omega arith, refl),
         false_from_ne_true _ (λ fit.
-        let fits_too = factors_fit k es s t factor fit in
-        let unfit = subst (λ (p : Piece). fits k (drop p.level ds) p.table ≡ false) (sym (in_one rest h.0 h.1)) h.2 in
-        absurd (cc)),
+            let fits_too = factors_fit k es s t factor fit in
+            let unfit = subst (λ (p : Piece). fits k (drop p.level ds) p.table ≡ false) (sym (in_one rest h.0 h.1)) h.2 in
+            absurd (cc)),
       );
     }
 

@@ -160,5 +160,8 @@ pub scale_overflows : (k : KindName) (v : View) (s : ℤ) (a : PlainEdge) → ha
     IsOfEach (multiple s) (scale_work s) k v v a (Err limit.Overflow)
 scale_overflows k v s a has some far l t h =
     answers_overflow k v (scale_work s l t) l (multiple s t)
-    ((scale_covers_multiple k v.letters s l t).unfit (record { level = l; table = multiple s t }, (0, omega arith, refl),
-    out_of_range k v l (multiple s t) (scaled k s a) (scaled_stands k v l s t a (may_scale k s has) some h) far))
+    ((scale_covers_multiple k v.letters s l t).unfit (
+      record { level = l; table = multiple s t },
+      (0, omega arith, refl),
+      out_of_range k v l (multiple s t) (scaled k s a) (scaled_stands k v l s t a (may_scale k s has) some h) far,
+    ))
