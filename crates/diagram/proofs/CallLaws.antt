@@ -5,7 +5,7 @@ use Rattle.word_base.specs.declared.decomp.Decomp.{Decomp}
 use Rattle.word_base.specs.declared.kind_name.KindName.{KindName}
 use Rattle.record_store.specs.StoreView.{find_in}
 use Rattle.tables.specs.Table.{Table, halves, IsOver}
-use Rattle.tables.specs.Pieces.{Piece, pieces, InNodes}
+use Rattle.tables.specs.Pieces.{Piece, pieces, InNodes, SomeUnfit}
 use Rattle.tables.proofs.PieceLaws.{Covers}
 use Rattle.kind_laws.specs.Plain.{PlainEdge}
 use Rattle.kind_laws.proofs.GraphLaws.{HasShape-extends}
@@ -71,6 +71,15 @@ pub refuses_then : (k : KindName) (v w x : View) (qs ps : List Piece) (l m : ℕ
 refuses_then k v w x qs ps l m t u e ran keeps covers answers = record {
   made = made_on k v w x qs ps ran.keeps keeps ran.made answers.made covers;
   cause = cause_on k x v.letters qs ps _ _ (keeps.letters ∙ ran.keeps.letters) covers (λ d h. h) answers.cause;
+  stands = tt;
+}
+
+-- an overflow after the calls so far
+pub ran_overflows : (k : KindName) (v w : View) (ps : List Piece) (l : ℕ) (t : Table) → Ran k v w ps → SomeUnfit k v.letters ps →
+    Answers k v w ps l t (Err limit.Overflow)
+ran_overflows k v w ps l t ran unfit = record {
+  made = ran.made;
+  cause = record { overflow = λ e. subst (λ (ds : List Decomp). SomeUnfit k ds ps) (sym ran.keeps.letters) unfit; full = λ e. absurd (cc) };
   stands = tt;
 }
 

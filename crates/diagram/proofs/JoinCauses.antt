@@ -109,9 +109,9 @@ no_such_id k v l t body m good unknown id h =
     let one = node_tells k h.fields m.fields h.zeros m.zeros (h.level_is ∙ sym m.level_is) e1 e2 h.low_is h.high_is in
     unknown (id, h.known ∙ ap (λ (f : Fields). Some (body_of f)) one ∙ ap Some (sym m.body_is))
 
-in_one : (i id : ℕ) → Contains (i ∷ []) id → i ≡ id
-in_one i id (zero, low, at) = at
-in_one i id (suc n, low, at) = absurd (omega arith)
+pub in_one : {X : Type 0} (x y : X) → Contains (x ∷ []) y → x ≡ y
+in_one x y (zero, low, at) = at
+in_one x y (suc n, low, at) = absurd (omega arith)
 
 -- ---- the answers of a join
 makes_nothing : (k : KindName) (v w : View) (ps : List Piece) → w.store.made ≡ v.store.made → Makes k v w ps

@@ -5,6 +5,8 @@ pub mod ContentLaws
 pub mod DifferenceLaws
 pub mod EachLaws
 mod Examples
+pub mod FactorCovers
+pub mod FactoredProducts
 pub mod GatherLaws
 pub mod HalfLaws
 pub mod JoinCauses
@@ -18,6 +20,7 @@ pub mod ProductCalls
 pub mod ProductLaws
 pub mod RememberedLaws
 pub mod SameLaws
+pub mod ScaledEdges
 pub mod ShiftLaws
 pub mod StepLaws
 pub mod StoreLaws

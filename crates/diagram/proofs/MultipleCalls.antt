@@ -88,7 +88,7 @@ multiples_can_join k v w x l c low high first second below keeps is_first later 
 
 -- the node of the high part lies deeper, also after the low part's call
 pub falls_to_high_part : (k : KindName) (v w : View) (l : ℕ) (low high : PlainEdge) → PartLiesBelow k v l low high → Keeps v w →
-    3 * (length w.letters - top_of w high.node) + 2 < 3 * (length v.letters - l)
+    4 * (length w.letters - top_of w high.node) + 3 < 4 * (length v.letters - l)
 falls_to_high_part k v w l low high below keeps =
     let within = below.within in
     let same = same_top k v w high keeps below.high_lies.good in

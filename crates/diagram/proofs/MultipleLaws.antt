@@ -1,38 +1,16 @@
 -- Multiples of tables and of their parts, and what the work of a multiple covers.
 use Rattle.std.proofs.Common.{◌≡◌, refl, sym, ◌∙◌, ap, subst, ℕ, zero, suc, ◌+◌, ◌<◌, ℤ, pos, ◌*ℤ◌, neg_ℤ, List, [], ◌∷◌, length, drop, true}
-use Rattle.integers.proofs.Ring.{*ℤ-distrib_sub_left, minus_one-*ℤ}
+use Rattle.integers.proofs.Ring.{minus_one-*ℤ}
 use Rattle.word_base.specs.declared.decomp.Decomp.{Decomp}
-use Rattle.word_base.specs.declared.decomp.Decomp.TheVariants.{S, P, N}
 use Rattle.word_base.specs.declared.kind_name.KindName.{KindName}
-use Rattle.tables.specs.Table.{Table, entry, halves, IsOver, minus, multiple, opposite, part0, part1, merged}
+use Rattle.tables.specs.Table.{Table, IsOver, multiple, opposite, part0, part1, merged}
 use Rattle.tables.specs.Laws.{are_allowed}
 use Rattle.tables.specs.Pieces.{pieces, scale_work, join_work}
 use Rattle.tables.proofs.PieceLaws.{Covers, covers_on, covers_beside, covers_left, covers_right, covers_low, covers_high, covers_join, covers_twice}
-use Rattle.tables.proofs.TableLaws.{both_halves, each-same, merged-parts, IsOver-each, IsOver-part0, IsOver-part1}
+use Rattle.tables.proofs.TableLaws.{each-same, merged-parts, part0-each, part1-multiple, IsOver-each, IsOver-part0, IsOver-part1}
 use Rattle.diagram.specs.View.{View, letter_at}
 use Rattle.diagram.proofs.CallLaws.{GoesByHalves}
 use Rattle.diagram.proofs.LevelLaws.{has_letter}
-
--- ---- the parts of a multiple
-minus-multiple : (c : ℤ) (n : ℕ) (a b : Table) → IsOver n a → IsOver n b → minus (multiple c a) (multiple c b) ≡ multiple c (minus a b)
-minus-multiple c zero (entry x) (entry y) o p = ap entry (sym (*ℤ-distrib_sub_left c x y))
-minus-multiple c zero (halves a e) b o p = absurd o
-minus-multiple c zero (entry x) (halves b e) o p = absurd p
-minus-multiple c (suc n) (entry x) b o p = absurd o
-minus-multiple c (suc n) (halves a e) (entry y) o p = absurd p
-minus-multiple c (suc n) (halves a e) (halves b f) o p = both_halves (minus-multiple c n a b o.0 p.0) (minus-multiple c n e f o.1 p.1)
-
-part0-multiple : (c : ℤ) (n : ℕ) (d : Decomp) (t : Table) → IsOver (suc n) t → part0 d (multiple c t) ≡ multiple c (part0 d t)
-part0-multiple c n d (entry x) o = absurd o
-part0-multiple c n S (halves a b) o = refl
-part0-multiple c n P (halves a b) o = refl
-part0-multiple c n N (halves a b) o = refl
-
-part1-multiple : (c : ℤ) (n : ℕ) (d : Decomp) (t : Table) → IsOver (suc n) t → part1 d (multiple c t) ≡ multiple c (part1 d t)
-part1-multiple c n d (entry x) o = absurd o
-part1-multiple c n S (halves a b) o = refl
-part1-multiple c n P (halves a b) o = minus-multiple c n b a o.1 o.0
-part1-multiple c n N (halves a b) o = minus-multiple c n a b o.0 o.1
 
 -- ---- the work of a multiple
 covers_two : (k : KindName) (ds : List Decomp) (l m : ℕ) (a b x y : Table) → Covers k ds (pieces l (a ∷ [])) (pieces m (x ∷ [])) →
@@ -67,8 +45,8 @@ multiple_covers k v l c t allowed within over =
     let o : IsOver (suc n) t = subst (λ (xs : List Decomp). IsOver (length xs) t) letter.letters over in
     let m = multiple c t in
     let r = IsOver-each (suc n) (λ x. c *ℤ x) t o in
-    let low_is = part0-multiple c n d t o in
-    let high_is = part1-multiple c n d t o in
+    let low_is = part0-each d (λ x. c *ℤ x) t in
+    let high_is = part1-multiple d c t in
     let p = multiple c (part0 d t) in
     let q = multiple c (part1 d t) in
     let over_p = IsOver-each n (λ x. c *ℤ x) (part0 d t) (IsOver-part0 n d t o) in

@@ -81,7 +81,7 @@ still_lie k v w l parts keeps h = record {
 
 -- the upper node of two parts lies deeper, also after other calls
 pub falls_below : (k : KindName) (v w : View) (l rank : ℕ) (a b : PlainEdge) → l < length v.letters → LiesBelow k v l a → LiesBelow k v l b → Keeps v w →
-    8 * (length w.letters - min (top_of w a.node) (top_of w b.node)) + 6 < 8 * (length v.letters - l) + rank
+    10 * (length w.letters - min (top_of w a.node) (top_of w b.node)) + 8 < 10 * (length v.letters - l) + rank
 falls_below k v w l rank a b within below_a below_b keeps =
     let first = same_top k v w a keeps below_a.good in
     let second = same_top k v w b keeps below_b.good in

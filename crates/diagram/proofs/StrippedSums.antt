@@ -1,7 +1,6 @@
 -- A sum by that of the operands without their shifts, and the sum by both walks.
 use Rattle.std.proofs.Common.{◌≡◌, refl, sym, ◌∙◌, ap, subst, ℕ, zero, suc, ◌+◌, ◌<◌, ℤ, pos, ◌+ℤ◌, List, [], ◌∷◌, false, true, length, drop, arith, inl, inr}
 use Rattle.std.specs.Prelude.{◌^◌, Result, Ok, Err, neg_ℤ}
-use Rattle.std.specs.List.{Contains}
 use Rattle.std.proofs.lemmas.List.Elements.{Contains-append_cases}
 use Rattle.word_base.specs.declared.decomp.Decomp.{Decomp}
 use Rattle.word_base.specs.declared.kind_name.KindName.{KindName}
@@ -24,8 +23,8 @@ use Rattle.diagram.specs.View.{View, StandsAt, Keeps}
 use Rattle.diagram.specs.declared.limit.Limit.{Limit}
 use Rattle.diagram.specs.declared.limit.Limit.TheVariants as limit
 use Rattle.diagram.specs.declared.walk.Walk.TheVariants.{Stripping}
-use Rattle.diagram.proofs.CallLaws.{Ran, ran_nothing, ran_then, answers_then, refuses_then}
-use Rattle.diagram.proofs.JoinCauses.{no_cause}
+use Rattle.diagram.proofs.CallLaws.{Ran, ran_nothing, ran_then, answers_then, refuses_then, ran_overflows}
+use Rattle.diagram.proofs.JoinCauses.{no_cause, in_one}
 use Rattle.diagram.proofs.LevelLaws.{stays}
 use Rattle.diagram.proofs.ShiftLaws.{lowered, may_lower, may_shift_both, shifted_stands, unshifted_stands, raised_shape, sum_put_back}
 
@@ -45,15 +44,11 @@ no_node k c s h = subst (IsNodeOf s) (constant-leaf k c) h
 abbrev IsNodeOfPiece : KindName → List Decomp → Shape → Piece → Type 0
 IsNodeOfPiece k ds s p = IsNodeOf s (canonical k (drop p.level ds) p.level p.table).shape
 
-the_one : (q p : Piece) → Contains (q ∷ []) p → q ≡ p
-the_one q p (zero, low, at) = at
-the_one q p (suc n, low, at) = absurd (omega arith)
-
 -- its nodes are those of the work of the sum
 work_nodes : (k : KindName) (ds : List Decomp) (l : ℕ) (t u : Table) (s : Shape) → InNodes k ds (sum_work Stripping l t u) s → InNodes k ds (add_work l t u) s
 work_nodes k ds l t u s (p, at, is) =
     elim (Contains-append_cases (no_weight ∷ []) (add_work l t u) p at) [
-      | inl here ↦ absurd (no_node k (pos (2 ^ 127)) s (subst (IsNodeOfPiece k ds s) (sym (the_one no_weight p here)) is))
+      | inl here ↦ absurd (no_node k (pos (2 ^ 127)) s (subst (IsNodeOfPiece k ds s) (sym (in_one no_weight p here)) is))
       | inr there ↦ (p, there, is)
     ]
 
@@ -109,11 +104,8 @@ rests_answer k v w l t u a b r h g sum = sum l _ _ (unshifted_stands k v l t a h
 
 -- the shifts' sum is no weight
 pub shifts_overflow : (k : KindName) (v : View) (a b : PlainEdge) → IsStripped k v v a b (Err limit.Overflow)
-shifts_overflow k v a b l t u h g = record {
-  made = (ran_nothing k v (sum_work Stripping l t u)).made;
-  cause = record { overflow = λ e. unfit_anyway k v.letters l t u; full = λ e. absurd (cc) };
-  stands = tt;
-}
+shifts_overflow k v a b l t u h g =
+    ran_overflows k v v (sum_work Stripping l t u) l (plus t u) (ran_nothing k v (sum_work Stripping l t u)) (unfit_anyway k v.letters l t u)
 
 pub rests_refuse : (k : KindName) (v w : View) (a b : PlainEdge) (e : Limit) → Keeps v w → IsStripped k v w (unshifted k a) (unshifted k b) (Err e) →
     IsStripped k v w a b (Err e)
@@ -130,11 +122,8 @@ rests_ran k v w l t u a b rest keeps h g sum =
 -- the sum with the shifts put back is no edge
 pub put_overflows : (k : KindName) (v w : View) (a b rest : PlainEdge) → Keeps v w → IsStripped k v w (unshifted k a) (unshifted k b) (Ok rest) →
     IsStripped k v w a b (Err limit.Overflow)
-put_overflows k v w a b rest keeps sum l t u h g = record {
-  made = (rests_ran k v w l t u a b rest keeps h g sum).made;
-  cause = record { overflow = λ e. unfit_anyway k w.letters l t u; full = λ e. absurd (cc) };
-  stands = tt;
-}
+put_overflows k v w a b rest keeps sum l t u h g =
+    ran_overflows k v w (sum_work Stripping l t u) l (plus t u) (rests_ran k v w l t u a b rest keeps h g sum) (unfit_anyway k v.letters l t u)
 
 pub shifts_put_back : (k : KindName) (v w : View) (a b rest sum : PlainEdge) (c : ℤ) → Keeps v w → c ≡ shift_of k a.root +ℤ shift_of k b.root →
     sum ≡ shifted k c rest → IsStripped k v w (unshifted k a) (unshifted k b) (Ok rest) → IsStripped k v w a b (Ok sum)

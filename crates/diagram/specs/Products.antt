@@ -5,7 +5,7 @@ use Rattle.word_base.specs.declared.decomp.Decomp.TheVariants.{P, N}
 use Rattle.word_base.specs.declared.kind_name.KindName.{KindName}
 use Rattle.tables.specs.Table.{Table, entry, halves, plus, times, part0, part1, merged}
 use Rattle.tables.specs.Pieces.{Piece, mul_work}
-use Rattle.kind_laws.specs.Plain.{PlainEdge}
+use Rattle.kind_laws.specs.Plain.{PlainEdge, constant_edge}
 use Rattle.diagram.specs.declared.limit.Limit.{Limit}
 use Rattle.diagram.specs.Answers.{Answers}
 use Rattle.diagram.specs.Calls.{PlainParts, StandForParts}
@@ -27,6 +27,11 @@ high_products d t u = plus (mixed_products d t u) (times (part1 d t) (part1 d u)
 abbrev pub IsBelowParts : (Decomp → Table → Table → Table) → KindName → View → View → ℕ → PlainParts → Result PlainEdge Limit → Type 0
 IsBelowParts op k old new level parts result = (t u : Table) → StandForParts k old level t u parts →
     Answers k old new (product_work old.letters level t u) (level + 1) (op (letter_at old.letters level) t u) result
+
+-- two edges of which none is the constant 0
+pub record AreSome (k : KindName) (a b : PlainEdge) : Type 0 where
+  pub first : a ≡ constant_edge k (pos 0) → ⊥
+  pub second : b ≡ constant_edge k (pos 0) → ⊥
 
 -- ---- examples
 abbrev two : ℤ → ℤ → Table

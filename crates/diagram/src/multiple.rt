@@ -1,4 +1,5 @@
-ghost use Rattle.std.specs.Prelude.{◌≢◌};
+ghost use Rattle.std.specs.Prelude.{◌≡◌, ◌≢◌, ◌↔◌, true, IsTrue};
+ghost use Rattle.tables.specs.Factors.{has_factor};
 ghost use Rattle.tables.specs.Table.{multiple, opposite};
 ghost use Rattle.tables.specs.Pieces.{scale_work, neg_work};
 ghost use Rattle.kind_laws.specs.Plain.{plain, answered};
@@ -10,7 +11,7 @@ use crate::limit::Limit;
 use crate::operation::Operation;
 use kind_laws::{Edge, Kind};
 use record_store::Store;
-use word_base::Weight;
+use word_base::{KindName, Weight};
 
 impl<K: Kind, S: Store> Builder<K, S> {
     /// The multiple, entry by entry.
@@ -24,6 +25,24 @@ impl<K: Kind, S: Store> Builder<K, S> {
         if a.node == 0 {
             return self.constant_of(factor.mul(K::value(a)));
         }
+        if factor == Weight::ZERO {
+            return Ok(self.constant(factor));
+        }
+        if has_factors::<K>() {
+            return Ok(K::put_scale(factor, a)?);
+        }
+        self.multiple_of(factor, a)
+    }
+
+    /// The multiple of an edge to a node, remembered.
+    #[cycle(multiple)]
+    fn multiple_of(&mut self, factor: Weight, a: Edge<K>) -> Result<Edge<K>, Limit>
+        requires good { IsEdge K.NAME self.old (plain K.extra_of a) }
+        requires no_leaf { a.node ≢ 0 }
+        ensures keeps { Keeps self.old self.new }
+        ensures multiple { IsOfEach (multiple factor) (scale_work factor) K.NAME self.old self.new (plain K.extra_of a)
+            (answered (plain K.extra_of) result) }
+    {
         let constant = self.constant(factor);
         if let Some(multiple) = self.known_product(constant, a) {
             return Ok(multiple);
@@ -75,4 +94,11 @@ impl<K: Kind, S: Store> Builder<K, S> {
     {
         self.scale(Weight::ONE.neg(), a)
     }
+}
+
+/// Whether the edges of the kind have multiplicative weights.
+fn has_factors<K: Kind>() -> bool
+    ensures { IsTrue result ↔ (has_factor K.NAME ≡ true) }
+{
+    matches!(K::NAME, KindName::StarBmd | KindName::KStarBmd)
 }

@@ -3,7 +3,7 @@ ghost use Rattle.word_base.specs.declared.decomp.Decomp.TheVariants as decomp;
 ghost use Rattle.tables.specs.Table.{times};
 ghost use Rattle.kind_laws.specs.Plain.{plain, answered};
 ghost use Rattle.diagram.specs.Calls.{IsOfBoth, IsOfParts, LieBelow, plain_parts};
-ghost use Rattle.diagram.specs.Products.{product_work, mixed_products, high_products, IsBelowParts};
+ghost use Rattle.diagram.specs.Products.{product_work, mixed_products, high_products, IsBelowParts, AreSome};
 ghost use Rattle.diagram.specs.View.{View, letter_at, IsEdge, Keeps};
 
 use crate::builder::Builder;
@@ -12,7 +12,7 @@ use crate::operation::Operation;
 use crate::parts::{Parts, are_constants};
 use kind_laws::{Edge, Kind};
 use record_store::Store;
-use word_base::Decomp;
+use word_base::{Decomp, Weight};
 
 impl<K: Kind, S: Store> Builder<K, S> {
     /// The product, entry by entry.
@@ -27,6 +27,43 @@ impl<K: Kind, S: Store> Builder<K, S> {
         if are_constants(a, b) {
             return self.constant_of(K::value(a).mul(K::value(b)));
         }
+        if self.is_constant(a, Weight::ZERO) {
+            return Ok(a);
+        }
+        if self.is_constant(b, Weight::ZERO) {
+            return Ok(b);
+        }
+        self.product_of_rests(a, b)
+    }
+
+    /// The product of two edges of which none is the constant 0, by that of what is left without their scales.
+    #[cycle(product)]
+    fn product_of_rests(&mut self, a: Edge<K>, b: Edge<K>) -> Result<Edge<K>, Limit>
+        requires a_good { IsEdge K.NAME self.old (plain K.extra_of a) }
+        requires b_good { IsEdge K.NAME self.old (plain K.extra_of b) }
+        requires some_node { (a.node ≡ 0) × (b.node ≡ 0) → ⊥ }
+        requires some { AreSome K.NAME (plain K.extra_of a) (plain K.extra_of b) }
+        ensures keeps { Keeps self.old self.new }
+        ensures product { IsOfBoth times (product_work self.old.letters) K.NAME self.old self.new
+            (plain K.extra_of a) (plain K.extra_of b) (answered (plain K.extra_of) result) }
+    {
+        let (first_scale, first) = K::take_scale(a);
+        let (second_scale, second) = K::take_scale(b);
+        let rest = self.product_of(first, second)?;
+        let multiple = K::put_scale(second_scale, rest)?;
+        Ok(K::put_scale(first_scale, multiple)?)
+    }
+
+    /// The product of two edges that are not both constants', remembered.
+    #[cycle(product)]
+    fn product_of(&mut self, a: Edge<K>, b: Edge<K>) -> Result<Edge<K>, Limit>
+        requires a_good { IsEdge K.NAME self.old (plain K.extra_of a) }
+        requires b_good { IsEdge K.NAME self.old (plain K.extra_of b) }
+        requires some_node { (a.node ≡ 0) × (b.node ≡ 0) → ⊥ }
+        ensures keeps { Keeps self.old self.new }
+        ensures product { IsOfBoth times (product_work self.old.letters) K.NAME self.old self.new
+            (plain K.extra_of a) (plain K.extra_of b) (answered (plain K.extra_of) result) }
+    {
         if let Some(product) = self.known_product(a, b) {
             return Ok(product);
         }

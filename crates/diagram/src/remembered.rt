@@ -26,18 +26,12 @@ impl<K: Kind, S: Store> Builder<K, S> {
         self.look_up(Operation::Sum, a, b)
     }
 
-    /// The product, where an operand is 0 or 1 or the product is remembered.
+    /// The product, where an operand is 1 or the product is remembered.
     pub(crate) fn known_product(&self, a: Edge<K>, b: Edge<K>) -> Option<Edge<K>>
         requires a_good { IsEdge K.NAME self.now (plain K.extra_of a) }
         requires b_good { IsEdge K.NAME self.now (plain K.extra_of b) }
         ensures { IfSome result (λ r. IsResult operation.Product K.NAME self.now (plain K.extra_of a) (plain K.extra_of b) (plain K.extra_of r)) }
     {
-        if self.is_constant(a, Weight::ZERO) {
-            return Some(a);
-        }
-        if self.is_constant(b, Weight::ZERO) {
-            return Some(b);
-        }
         if self.is_constant(a, Weight::ONE) {
             return Some(b);
         }
@@ -48,7 +42,7 @@ impl<K: Kind, S: Store> Builder<K, S> {
     }
 
     /// Whether an edge is that of a constant.
-    fn is_constant(&self, edge: Edge<K>, value: Weight) -> bool
+    pub(crate) fn is_constant(&self, edge: Edge<K>, value: Weight) -> bool
         requires { IsEdge K.NAME self.now (plain K.extra_of edge) }
         ensures { IsTrue result ↔ (plain K.extra_of edge ≡ constant_edge K.NAME value) }
     {

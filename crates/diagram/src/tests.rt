@@ -149,7 +149,6 @@ fn terms_with_one_meaning_have_one_edge(rt: HostRuntime) -> Result<(), Fail> {
 
 fn check_causes<K: Kind>(rt: &impl Abort, builder: &mut Builder<K, SoloStore>) -> Result<(), Fail> {
     let greatest = Term::Constant(Weight::MAX);
-    let sum = Term::Sum(&greatest, &X);
     assert!(rt; matches!(X.edge(rt, builder), Ok(_)));
     assert!(rt; matches!(Y.edge(rt, builder), Err(Limit::Full)));
     assert!(rt;
@@ -158,7 +157,8 @@ fn check_causes<K: Kind>(rt: &impl Abort, builder: &mut Builder<K, SoloStore>) -
             Err(Limit::Overflow)
         )
     );
-    assert!(rt; matches!(Term::Negative(&sum).edge(rt, builder), Err(_)));
+    let twice = Term::Multiple(Weight::TWO, &greatest);
+    assert!(rt; matches!(twice.edge(rt, builder), Err(Limit::Overflow)));
     Ok(())
 }
 
@@ -221,19 +221,30 @@ fn check_lines<K: Kind>(rt: &impl Abort, builder: &mut Builder<K, SoloStore>) ->
     Ok(())
 }
 
-/// The entries `-m`, `-m + 1`, `-2` and `m - 1`, of which the last one is out of range without the first.
+/// Two terms that are added one after the other to `-m + (m - 2)*x`, where `m` is the greatest weight.
+fn added_to_line<K: Kind>(
+    rt: &impl Abort,
+    builder: &mut Builder<K, SoloStore>,
+    second: &Term,
+    third: &Term,
+) -> Result<Edge<K>, Limit> {
+    let least = Term::Constant(Weight::MAX.neg());
+    let step = Term::Multiple(Weight::MAX.sub(Weight::TWO)?, &X);
+    let line = Term::Sum(&least, &step);
+    let sum = Term::Sum(&line, second);
+    Term::Sum(&sum, third).edge(rt, builder)
+}
+
+/// The entries `-m`, `-m + 1`, `-2` and `m - 2`, of which the last one is out of range without the first.
 fn check_far_entries<K: Kind>(
     rt: &impl Abort,
     builder: &mut Builder<K, SoloStore>,
 ) -> Result<(), Fail> {
-    let first = Term::Constant(Weight::MAX.neg());
-    let step = Term::Multiple(Weight::MAX.sub(Weight::TWO)?, &X);
-    let line = Term::Sum(&first, &step);
     let product = Term::Product(&X, &Y);
-    let last = Term::Multiple(Weight::MAX, &product);
-    let before = Term::Sum(&line, &last);
-    let after = Term::Sum(&line, &Y);
-    assert!(rt; are_same(rt, builder, &Term::Sum(&before, &Y), &Term::Sum(&after, &last))?);
+    let last = Term::Multiple(Weight::MAX.sub(Weight::ONE)?, &product);
+    let before = added_to_line(rt, builder, &last, &Y)?;
+    let after = added_to_line(rt, builder, &Y, &last)?;
+    assert!(rt; builder.same(before, after));
     Ok(())
 }
 
@@ -248,6 +259,64 @@ fn sums_at_the_ends_of_the_range(rt: HostRuntime) -> Result<(), Fail> {
         check_far_entries(&rt, k_star_bmd)?;
     }
     Ok(())
+}
+
+/// Whether the product of `a*x` and `b*y` is `c*x*y`.
+fn multiplies_to<K: Kind>(
+    rt: &impl Abort,
+    builder: &mut Builder<K, SoloStore>,
+    a: Weight,
+    b: Weight,
+    c: Weight,
+) -> Result<bool, Limit> {
+    let first = Term::Multiple(a, &X);
+    let second = Term::Multiple(b, &Y);
+    let product = Term::Product(&X, &Y);
+    are_same(
+        rt,
+        builder,
+        &Term::Product(&first, &second),
+        &Term::Multiple(c, &product),
+    )
+}
+
+/// Products of which the scales are at the ends of the range.
+fn check_scales<K: Kind>(rt: &impl Abort, builder: &mut Builder<K, SoloStore>) -> Result<(), Fail> {
+    let most = Weight::MAX;
+    let least = most.neg();
+    let zero = Weight::ZERO;
+    let two = Weight::TWO;
+    let minus_one = Weight::ONE.neg();
+    assert!(rt; multiplies_to(rt, builder, most, minus_one, least)?);
+    assert!(rt; multiplies_to(rt, builder, least, minus_one, most)?);
+    assert!(rt; multiplies_to(rt, builder, zero, least, zero)?);
+    assert!(rt; multiplies_to(rt, builder, two.neg(), two.neg(), two.add(two)?)?);
+    assert!(rt; !multiplies_to(rt, builder, two, two, two)?);
+    assert!(rt;
+        matches!(
+            multiplies_to(rt, builder, most, two, zero),
+            Err(Limit::Overflow)
+        )
+    );
+    Ok(())
+}
+
+#[test]
+fn products_at_the_ends_of_the_range(rt: HostRuntime) -> Result<(), Fail> {
+    check_scales(&rt, &mut two_levels::<Hdd>(rt.alloc(), &POSITIVE, 100, 4)?)?;
+    check_scales(&rt, &mut two_levels::<Evbdd>(rt.alloc(), &SHANNON, 100, 4)?)?;
+    check_scales(
+        &rt,
+        &mut two_levels::<StarBmd>(rt.alloc(), &POSITIVE, 100, 4)?,
+    )?;
+    check_scales(
+        &rt,
+        &mut two_levels::<KStarBmd>(rt.alloc(), &SHANNON, 100, 4)?,
+    )?;
+    check_scales(
+        &rt,
+        &mut two_levels::<KStarBmd>(rt.alloc(), &NEGATIVE, 100, 4)?,
+    )
 }
 
 /// The parts of an edge at a level that is not below its node.

@@ -1,23 +1,39 @@
-use Rattle.std.proofs.Common.{sym, ◌∙◌, subst, ap, ℕ, ◌+◌, ◌-◌, ◌*◌, ◌<◌, ◌*ℤ◌, List, length, min, rules}
-use Rattle.std.specs.Prelude.{Ok, Err}
+use Rattle.std.proofs.Common.{◌≡◌, refl, sym, ◌∙◌, subst, ap, ℕ, ℤ, true, ◌+◌, ◌-◌, ◌*◌, ◌<◌, ◌*ℤ◌, List, length, min, rules}
+use Rattle.std.specs.Prelude.{Ok, Err, Result}
 use Rattle.word_base.specs.declared.decomp.Decomp.{Decomp}
+use Rattle.word_base.specs.declared.kind_name.KindName.{KindName}
 use Rattle.tables.specs.Table.{times}
-use Rattle.kind_laws.specs.Plain.{plain, answered}
+use Rattle.tables.specs.Fits.{weights_in_range}
+use Rattle.kind_laws.specs.Plain.{PlainEdge, plain, answered}
+use Rattle.kind_laws.specs.Scale.{scale_of, unscaled, scaled}
 use Rattle.diagram.specs.Calls.{CanPart, ArePartsOfBoth, IsOfBoth, IsOfParts, LieBelow, plain_parts}
 use Rattle.diagram.specs.Products.{product_work, mixed_products, high_products}
-use Rattle.diagram.specs.View.{View, letter_at, top_of}
+use Rattle.diagram.specs.View.{View, letter_at, IsEdge, top_of}
+use Rattle.diagram.specs.declared.limit.Limit.{Limit}
 use Rattle.diagram.specs.declared.limit.Limit.TheVariants as limit
 use Rattle.diagram.proofs.BothLaws.{constant_is, constants_answer, HaveNode, can_part_first, can_part_second, parts_lie_below}
 use Rattle.diagram.proofs.CallLaws.{same_keeps, both_of_parts, both_unfit}
 use Rattle.diagram.proofs.LevelLaws.{still_edge, good_at}
 use Rattle.diagram.specs.declared.operation.Operation.TheVariants.{Product}
-use Rattle.diagram.proofs.RememberedLaws.{known_both, both_result}
+use Rattle.diagram.proofs.FactoredProducts.{IsProduct, rests_product_refuses, second_scale_overflows, first_scale_overflows, scales_put_back}
+use Rattle.diagram.proofs.RememberedLaws.{known_both, both_result, swapped, product_with_zero}
+use Rattle.diagram.proofs.ScaledEdges.{unscaled_good}
 use Rattle.diagram.proofs.StoreLaws.{keeps_on, keeps_itself}
 use Rattle.diagram.proofs.StepLaws.{first_refuses, second_refuses, last_answers, sum_step}
 use Rattle.diagram.proofs.ProductLaws.{mul_by_halves, product_covers_product, product_covers_operands}
 use Rattle.diagram.proofs.ProductCalls.{some_parts, still_lie, falls_below, davio_at, below_step, shannon_low, shannon_high, davio_low, davio_high_part, davio_highs, low_by_high, high_by_low, first_stands, steps_can_join, product_answers}
 use Rattle.diagram.proofs.SumCalls.{refused_both}
 use Rattle.diagram.proofs.builder.Builder.+product.Goals as goal
+
+-- the product of what is left
+of_rests : (k : KindName) (v w : View) (a b first second : PlainEdge) (r : Result PlainEdge Limit) → first ≡ unscaled k a → second ≡ unscaled k b →
+    IsProduct k v w first second r → IsProduct k v w (unscaled k a) (unscaled k b) r
+of_rests k v w a b first second r p q product =
+    subst (λ (e : PlainEdge). IsProduct k v w (unscaled k a) e r) q (subst (λ (e : PlainEdge). IsProduct k v w e second r) p product)
+
+-- the scale of an edge, put back
+put_back : (k : KindName) (a rest multiple : PlainEdge) (s : ℤ) → s ≡ scale_of k a.root → multiple ≡ scaled k s rest → multiple ≡ scaled k (scale_of k a.root) rest
+put_back k a rest multiple s scale is = is ∙ ap (λ (z : ℤ). scaled k z rest) scale
 
 pub mul-value-requires : goal.mul-value-requires
 mul-value-requires g t c =
@@ -36,16 +52,16 @@ mul-returns-then-are_constants-clause-product g t c = λ l x y h e.
     constants_answer k v (λ m n. m *ℤ n) (product_work v.letters l x y) l x y a b c.value.result c.value-then-are_constants.result c.mul.result _
     c.value.ensures c.value-then-are_constants.ensures c.mul.ensures c.constant_of.ensures h e (product_covers_product k v.letters l x y)
 
-pub mul-returns-in-Some-clause-product : goal.mul-returns-in-Some-clause-product
-mul-returns-in-Some-clause-product g t c =
+pub product_of-returns-in-Some-clause-product : goal.product_of-returns-in-Some-clause-product
+product_of-returns-in-Some-clause-product g t c =
     let k = g.K.Kind.NAME in
     let v = c.args.self.now in
     let a = plain g.K.Kind.extra_of c.args.a in
     let b = plain g.K.Kind.extra_of c.args.b in
     known_both Product k (product_work v.letters) v a b (plain g.K.Kind.extra_of c.in-Some.product) c.in-Some.ensures
 
-pub mul-remember-requires-clause-is_result : goal.mul-remember-requires-clause-is_result
-mul-remember-requires-clause-is_result g t c = λ lives bounds.
+pub product_of-remember-requires-clause-is_result : goal.product_of-remember-requires-clause-is_result
+product_of-remember-requires-clause-is_result g t c = λ lives bounds.
     let k = g.K.Kind.NAME in
     let v = c.args.self.now in
     let w = c.mul_anew.new.self in
@@ -54,8 +70,8 @@ mul-remember-requires-clause-is_result g t c = λ lives bounds.
     both_result Product k (product_work v.letters) v w a b (plain g.K.Kind.extra_of c.in_ok-product.product) c.in_ok-product.ensures.keeps c.requires.a_good c.requires.b_good
     c.in_ok-product.ensures.product
 
-pub mul-returns-clause-product : goal.mul-returns-clause-product
-mul-returns-clause-product g t c =
+pub product_of-returns-clause-product : goal.product_of-returns-clause-product
+product_of-returns-clause-product g t c =
     let k = g.K.Kind.NAME in
     let v = c.args.self.now in
     let a = plain g.K.Kind.extra_of c.args.a in
@@ -65,20 +81,20 @@ mul-returns-clause-product g t c =
 pub mul-returns-then-are_constants-clause-keeps : goal.mul-returns-then-are_constants-clause-keeps
 mul-returns-then-are_constants-clause-keeps g t c = keeps_itself c.args.self.now
 
-pub mul-returns-in_err-product-clause-product : goal.mul-returns-in_err-product-clause-product
-mul-returns-in_err-product-clause-product g t c =
+pub product_of-returns-in_err-product-clause-product : goal.product_of-returns-in_err-product-clause-product
+product_of-returns-in_err-product-clause-product g t c =
     let k = g.K.Kind.NAME in
     let v = c.args.self.now in
     let a = plain g.K.Kind.extra_of c.args.a in
     let b = plain g.K.Kind.extra_of c.args.b in
     refused_both k times (product_work v.letters) v c.mul_anew.new.self a b (plain g.K.Kind.extra_of) c.from_residual.result c.in_err-product.field-0.0 c.from_residual.ensures.1 c.in_err-product.ensures.product
 
-pub mul-remember-requires-clause-a_good : goal.mul-remember-requires-clause-a_good
-mul-remember-requires-clause-a_good g t c = λ lives bounds.
+pub product_of-remember-requires-clause-a_good : goal.product_of-remember-requires-clause-a_good
+product_of-remember-requires-clause-a_good g t c = λ lives bounds.
     still_edge g.K.Kind.NAME c.args.self.now c.mul_anew.new.self (plain g.K.Kind.extra_of c.args.a) c.in_ok-product.ensures.keeps c.requires.a_good
 
-pub mul-remember-requires-clause-b_good : goal.mul-remember-requires-clause-b_good
-mul-remember-requires-clause-b_good g t c = λ lives bounds.
+pub product_of-remember-requires-clause-b_good : goal.product_of-remember-requires-clause-b_good
+product_of-remember-requires-clause-b_good g t c = λ lives bounds.
     still_edge g.K.Kind.NAME c.args.self.now c.mul_anew.new.self (plain g.K.Kind.extra_of c.args.b) c.in_ok-product.ensures.keeps c.requires.b_good
 
 pub mul_anew-parts_of_both-requires-clause-a : goal.mul_anew-parts_of_both-requires-clause-a
@@ -432,7 +448,7 @@ davio_high-mul-requires g t c = λ lives bounds.
     let b = plain g.K.Kind.extra_of c.args.parts.high.1 in
     let keeps = c.in_ok-mixed.ensures.keeps in
     let falls = falls_below k v w c.args.level 2 a b c.requires.parts.within c.requires.parts.first_high c.requires.parts.second_high keeps in
-    (subst (λ (n : ℕ). 8 * (length w.letters - min (top_of w a.node) (top_of w b.node)) + 6 < n) c.decreases falls, (bounds.0, (bounds.1.0, (bounds.1.1, (search rules, (search rules, (search rules, (search rules, (still_edge k v w a keeps c.requires.parts.first_high.good, still_edge k v w b keeps c.requires.parts.second_high.good)))))))))
+    (subst (λ (n : ℕ). 10 * (length w.letters - min (top_of w a.node) (top_of w b.node)) + 8 < n) c.decreases falls, (bounds.0, (bounds.1.0, (bounds.1.1, (search rules, (search rules, (search rules, (search rules, (still_edge k v w a keeps c.requires.parts.first_high.good, still_edge k v w b keeps c.requires.parts.second_high.good)))))))))
 
 pub mixed_products-mul-requires-2 : goal.mixed_products-mul-requires-2
 mixed_products-mul-requires-2 g t c = λ lives bounds.
@@ -443,7 +459,7 @@ mixed_products-mul-requires-2 g t c = λ lives bounds.
     let b = plain g.K.Kind.extra_of c.args.parts.low.1 in
     let keeps = c.in_ok-first.ensures.keeps in
     let falls = falls_below k v w c.args.level 1 a b c.requires.parts.within c.requires.parts.first_high c.requires.parts.second_low keeps in
-    (subst (λ (n : ℕ). 8 * (length w.letters - min (top_of w a.node) (top_of w b.node)) + 6 < n) c.decreases falls, (bounds.0, (bounds.1.0, (bounds.1.1, (search rules, (search rules, (search rules, (search rules, (still_edge k v w a keeps c.requires.parts.first_high.good, still_edge k v w b keeps c.requires.parts.second_low.good)))))))))
+    (subst (λ (n : ℕ). 10 * (length w.letters - min (top_of w a.node) (top_of w b.node)) + 8 < n) c.decreases falls, (bounds.0, (bounds.1.0, (bounds.1.1, (search rules, (search rules, (search rules, (search rules, (still_edge k v w a keeps c.requires.parts.first_high.good, still_edge k v w b keeps c.requires.parts.second_low.good)))))))))
 
 pub shannon_product-mul-requires-2 : goal.shannon_product-mul-requires-2
 shannon_product-mul-requires-2 g t c = λ lives bounds.
@@ -454,4 +470,99 @@ shannon_product-mul-requires-2 g t c = λ lives bounds.
     let b = plain g.K.Kind.extra_of c.args.parts.high.1 in
     let keeps = c.in_ok-low.ensures.keeps in
     let falls = falls_below k v w c.args.level 1 a b c.requires.parts.within c.requires.parts.first_high c.requires.parts.second_high keeps in
-    (subst (λ (n : ℕ). 8 * (length w.letters - min (top_of w a.node) (top_of w b.node)) + 6 < n) c.decreases falls, (bounds.0, (bounds.1.0, (bounds.1.1, (search rules, (search rules, (search rules, (search rules, (still_edge k v w a keeps c.requires.parts.first_high.good, still_edge k v w b keeps c.requires.parts.second_high.good)))))))))
+    (subst (λ (n : ℕ). 10 * (length w.letters - min (top_of w a.node) (top_of w b.node)) + 8 < n) c.decreases falls, (bounds.0, (bounds.1.0, (bounds.1.1, (search rules, (search rules, (search rules, (search rules, (still_edge k v w a keeps c.requires.parts.first_high.good, still_edge k v w b keeps c.requires.parts.second_high.good)))))))))
+
+pub mul-returns-then-is_constant-clause-product : goal.mul-returns-then-is_constant-clause-product
+mul-returns-then-is_constant-clause-product g t c =
+    let k = g.K.Kind.NAME in
+    let v = c.args.self.now in
+    let a = plain g.K.Kind.extra_of c.args.a in
+    let b = plain g.K.Kind.extra_of c.args.b in
+    known_both Product k (product_work v.letters) v a b a (product_with_zero k v a b (c.if-is_constant.ensures.0 refl))
+
+pub mul-returns-then-is_constant-2-clause-product : goal.mul-returns-then-is_constant-2-clause-product
+mul-returns-then-is_constant-2-clause-product g t c =
+    let k = g.K.Kind.NAME in
+    let v = c.args.self.now in
+    let a = plain g.K.Kind.extra_of c.args.a in
+    let b = plain g.K.Kind.extra_of c.args.b in
+    known_both Product k (product_work v.letters) v a b b (swapped Product k v b a b (product_with_zero k v b a (c.if-is_constant-2.ensures.0 refl)))
+
+pub mul-returns-then-is_constant-clause-keeps : goal.mul-returns-then-is_constant-clause-keeps
+mul-returns-then-is_constant-clause-keeps g t c = keeps_itself c.args.self.now
+
+pub mul-returns-then-is_constant-2-clause-keeps : goal.mul-returns-then-is_constant-2-clause-keeps
+mul-returns-then-is_constant-2-clause-keeps g t c = keeps_itself c.args.self.now
+
+pub product_of_rests-product_of-requires-clause-a_good : goal.product_of_rests-product_of-requires-clause-a_good
+product_of_rests-product_of-requires-clause-a_good g t c = λ lives bounds.
+    let k = g.K.Kind.NAME in
+    let v = c.args.self.now in
+    subst (IsEdge k v) (sym c.take_scale-first_scale.ensures.rest) (unscaled_good k v (plain g.K.Kind.extra_of c.args.a) c.requires.a_good c.requires.some.first)
+
+pub product_of_rests-product_of-requires-clause-b_good : goal.product_of_rests-product_of-requires-clause-b_good
+product_of_rests-product_of-requires-clause-b_good g t c = λ lives bounds.
+    let k = g.K.Kind.NAME in
+    let v = c.args.self.now in
+    subst (IsEdge k v) (sym c.take_scale-second_scale.ensures.rest) (unscaled_good k v (plain g.K.Kind.extra_of c.args.b) c.requires.b_good c.requires.some.second)
+
+pub product_of_rests-returns-in_err-rest-clause-product : goal.product_of_rests-returns-in_err-rest-clause-product
+product_of_rests-returns-in_err-rest-clause-product g t c =
+    let k = g.K.Kind.NAME in
+    let v = c.args.self.now in
+    let w = c.product_of.new.self in
+    let a = plain g.K.Kind.extra_of c.args.a in
+    let b = plain g.K.Kind.extra_of c.args.b in
+    refused_both k times (product_work v.letters) v w a b (plain g.K.Kind.extra_of) c.from_residual.result c.in_err-rest.field-0.0 c.from_residual.ensures.1
+    (rests_product_refuses k v w a b c.in_err-rest.field-0.0 c.requires.some c.in_err-rest.ensures.keeps
+    (of_rests k v w a b _ _ (Err c.in_err-rest.field-0.0) c.take_scale-first_scale.ensures.rest c.take_scale-second_scale.ensures.rest c.in_err-rest.ensures.product))
+
+pub product_of_rests-returns-in_err-multiple-clause-product : goal.product_of_rests-returns-in_err-multiple-clause-product
+product_of_rests-returns-in_err-multiple-clause-product g t c =
+    let k = g.K.Kind.NAME in
+    let v = c.args.self.now in
+    let w = c.product_of.new.self in
+    let a = plain g.K.Kind.extra_of c.args.a in
+    let b = plain g.K.Kind.extra_of c.args.b in
+    let rest = plain g.K.Kind.extra_of c.in_ok-rest.rest in
+    refused_both k times (product_work v.letters) v w a b (plain g.K.Kind.extra_of) c.from_residual-in_err-multiple.result limit.Overflow
+    c.from_residual-in_err-multiple.ensures.1
+    (second_scale_overflows k v w a b rest c.requires.some c.in_ok-rest.ensures.keeps
+    (of_rests k v w a b _ _ (Ok rest) c.take_scale-first_scale.ensures.rest c.take_scale-second_scale.ensures.rest c.in_ok-rest.ensures.product)
+    (λ fit. c.in_err-multiple.ensures (subst (λ (s : ℤ). weights_in_range (scaled k s rest).root ≡ true) (sym c.take_scale-second_scale.ensures.scale) fit)))
+
+pub product_of_rests-returns-in_err-put_scale-clause-product : goal.product_of_rests-returns-in_err-put_scale-clause-product
+product_of_rests-returns-in_err-put_scale-clause-product g t c =
+    let k = g.K.Kind.NAME in
+    let v = c.args.self.now in
+    let w = c.product_of.new.self in
+    let a = plain g.K.Kind.extra_of c.args.a in
+    let b = plain g.K.Kind.extra_of c.args.b in
+    let rest = plain g.K.Kind.extra_of c.in_ok-rest.rest in
+    let first = c.take_scale-first_scale.ensures in
+    let second = c.take_scale-second_scale.ensures in
+    let multiple = put_back k b rest (plain g.K.Kind.extra_of c.in_ok-multiple.multiple) _ second.scale c.in_ok-multiple.ensures.1 in
+    let InRange : ℤ → PlainEdge → Type 0 = λ s e. weights_in_range (scaled k s e).root ≡ true in
+    refused_both k times (product_work v.letters) v w a b (plain g.K.Kind.extra_of) c.from_residual-in_err-put_scale.result limit.Overflow
+    c.from_residual-in_err-put_scale.ensures.1
+    (first_scale_overflows k v w a b rest c.requires.some c.in_ok-rest.ensures.keeps
+    (of_rests k v w a b _ _ (Ok rest) first.rest second.rest c.in_ok-rest.ensures.product)
+    (λ fit. c.in_err-put_scale.ensures (subst (λ (s : ℤ). InRange s (plain g.K.Kind.extra_of c.in_ok-multiple.multiple)) (sym first.scale)
+    (subst (InRange (scale_of k a.root)) (sym multiple) fit))))
+
+pub product_of_rests-returns-clause-product : goal.product_of_rests-returns-clause-product
+product_of_rests-returns-clause-product g t c =
+    let k = g.K.Kind.NAME in
+    let v = c.args.self.now in
+    let w = c.product_of.new.self in
+    let a = plain g.K.Kind.extra_of c.args.a in
+    let b = plain g.K.Kind.extra_of c.args.b in
+    let rest = plain g.K.Kind.extra_of c.in_ok-rest.rest in
+    let first = c.take_scale-first_scale.ensures in
+    let second = c.take_scale-second_scale.ensures in
+    let multiple = put_back k b rest (plain g.K.Kind.extra_of c.in_ok-multiple.multiple) _ second.scale c.in_ok-multiple.ensures.1 in
+    let product = put_back k a (plain g.K.Kind.extra_of c.in_ok-multiple.multiple) (plain g.K.Kind.extra_of c.in_ok-put_scale.field-0) _ first.scale c.in_ok-put_scale.ensures.1
+    ∙ ap (scaled k (scale_of k a.root)) multiple in
+    subst (λ (e : PlainEdge). IsProduct k v w a b (Ok e)) (sym product)
+    (scales_put_back k v w a b rest c.requires.some c.in_ok-rest.ensures.keeps
+    (of_rests k v w a b _ _ (Ok rest) first.rest second.rest c.in_ok-rest.ensures.product))

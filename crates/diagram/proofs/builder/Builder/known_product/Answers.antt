@@ -1,12 +1,12 @@
 use Rattle.std.proofs.Common.{refl}
 use Rattle.kind_laws.specs.Plain.{plain}
 use Rattle.diagram.specs.declared.operation.Operation.TheVariants.{Product}
-use Rattle.diagram.proofs.RememberedLaws.{swapped, product_with_zero, product_with_one}
+use Rattle.diagram.proofs.RememberedLaws.{swapped, product_with_one}
 use Rattle.diagram.proofs.builder.Builder.known_product.Goals as goal
 
 pub returns-then-is_constant : goal.returns-then-is_constant
 returns-then-is_constant g c =
-    product_with_zero g.K.Kind.NAME c.args.self.now (plain g.K.Kind.extra_of c.args.a) (plain g.K.Kind.extra_of c.args.b) (c.if-is_constant.ensures.0 refl)
+    product_with_one g.K.Kind.NAME c.args.self.now (plain g.K.Kind.extra_of c.args.a) (plain g.K.Kind.extra_of c.args.b) (c.if-is_constant.ensures.0 refl)
 
 pub returns-then-is_constant-2 : goal.returns-then-is_constant-2
 returns-then-is_constant-2 g c =
@@ -14,16 +14,4 @@ returns-then-is_constant-2 g c =
     let v = c.args.self.now in
     let a = plain g.K.Kind.extra_of c.args.a in
     let b = plain g.K.Kind.extra_of c.args.b in
-    swapped Product k v b a b (product_with_zero k v b a (c.if-is_constant-2.ensures.0 refl))
-
-pub returns-then-is_constant-3 : goal.returns-then-is_constant-3
-returns-then-is_constant-3 g c =
-    product_with_one g.K.Kind.NAME c.args.self.now (plain g.K.Kind.extra_of c.args.a) (plain g.K.Kind.extra_of c.args.b) (c.if-is_constant-3.ensures.0 refl)
-
-pub returns-then-is_constant-4 : goal.returns-then-is_constant-4
-returns-then-is_constant-4 g c =
-    let k = g.K.Kind.NAME in
-    let v = c.args.self.now in
-    let a = plain g.K.Kind.extra_of c.args.a in
-    let b = plain g.K.Kind.extra_of c.args.b in
-    swapped Product k v b a a (product_with_one k v b a (c.if-is_constant-4.ensures.0 refl))
+    swapped Product k v b a a (product_with_one k v b a (c.if-is_constant-2.ensures.0 refl))
