@@ -1,5 +1,5 @@
 -- How many inputs and gates the multiplier has.
-use Rattle.std.proofs.Common.{◌≡◌, ℕ, zero, suc, ◌+◌, ◌-◌, ◌*◌, ◌<◌, ◌≤◌, ◌==◌, nat_lt, Bool, true, false, cond, List, [], ◌∷◌, ◌++◌, length, map, Option, Some, None, refl, sym, ap, ◌∙◌, subst, length-append, arith}
+use Rattle.std.proofs.Common.{◌≡◌, ℕ, zero, suc, ◌+◌, ◌-◌, ◌*◌, ◌<◌, ◌≤◌, ◌==◌, nat_lt, Bool, true, false, cond, List, [], ◌∷◌, ◌++◌, length, Option, Some, None, refl, ap, length-append, arith}
 use Rattle.std.specs.Option.{option_to_list, is_some}
 use Rattle.std.specs.List.{flat_map, range_with_len}
 use Rattle.std.proofs.lemmas.List.FromFn.{length-map-range_with_len}
@@ -71,9 +71,9 @@ first_row m =
     let f : ℕ → List Gate = adder size 1 in
     let first : length (f 0) ≡ 2 = of_first_two 1 0 (Partial 0 1) (above size 1 0) (beside 1 0) (above_within size 1 0 (omega arith)) refl in
     let middle : length (flat_map f (range_with_len 1 m)) ≡ m * 5 =
-        length-flat_map_same f 5 1 m (λ k low high. of_three 1 k (Partial k 1) (above size 1 k) (beside 1 k) (above_within size 1 k (omega arith)) (beside_some 1 k low)) in
+    length-flat_map_same f 5 1 m (λ k low high. of_three 1 k (Partial k 1) (above size 1 k) (beside 1 k) (above_within size 1 k (omega arith)) (beside_some 1 k low)) in
     let last : length (f (1 + m)) ≡ 2 =
-        of_last_two 1 (1 + m) (Partial (1 + m) 1) (above size 1 (1 + m)) (beside 1 (1 + m)) (above_first_ends size (1 + m) (omega arith)) (beside_some 1 (1 + m) (omega arith)) in
+    of_last_two 1 (1 + m) (Partial (1 + m) 1) (above size 1 (1 + m)) (beside 1 (1 + m)) (above_first_ends size (1 + m) (omega arith)) (beside_some 1 (1 + m) (omega arith)) in
     omega (arith, length-append (f 0) (flat_map f (range_with_len 1 (suc m))), length-flat_map_more f 1 m)
 
 -- a row behind it: two bits at the lowest place
@@ -83,7 +83,7 @@ other_row m row behind =
     let f : ℕ → List Gate = adder size row in
     let first : length (f 0) ≡ 2 = of_first_two row 0 (Partial 0 row) (above size row 0) (beside row 0) (above_behind_first size row 0 behind) refl in
     let others : length (flat_map f (range_with_len 1 (suc m))) ≡ suc m * 5 =
-        length-flat_map_same f 5 1 (suc m) (λ k low high. of_three row k (Partial k row) (above size row k) (beside row k) (above_behind_first size row k behind) (beside_some row k low)) in
+    length-flat_map_same f 5 1 (suc m) (λ k low high. of_three row k (Partial k row) (above size row k) (beside row k) (above_behind_first size row k behind) (beside_some row k low)) in
     omega (arith, length-append (f 0) (flat_map f (range_with_len 1 (suc m))))
 
 partials : (size : ℕ) → length (partial_products size) ≡ size * size
@@ -94,7 +94,7 @@ adders_count m =
     let f : ℕ → List Gate = adder_row (suc (suc m)) in
     let others : length (flat_map f (range_with_len 2 m)) ≡ m * (2 + suc m * 5) = length-flat_map_same f (2 + suc m * 5) 2 m (λ k low high. other_row m k low) in
     let all : length (flat_map f (range_with_len 1 (suc m))) ≡ 4 + m * 5 + m * (2 + suc m * 5) =
-        omega (arith, length-append (f 1) (flat_map f (range_with_len 2 m)), first_row m) in
+    omega (arith, length-append (f 1) (flat_map f (range_with_len 2 m)), first_row m) in
     let less : suc (suc m) - 1 ≡ suc m = omega arith in
     rw less all
 

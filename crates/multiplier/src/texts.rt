@@ -2,13 +2,12 @@ ghost use Rattle.std.specs.Prelude.{◌≡◌, ◌≤◌, ◌++◌, IfOk, OnOk, 
 ghost use Rattle.std.specs.List.{flat_map};
 ghost use Rattle.multiplier.specs.Texts.{between, gate_line, netlist_text, spec_text, word_line};
 
-use std::alloc::{AllocError, Global};
-
 use crate::adders::gates;
 use crate::gate::Gate;
 use crate::net::Net;
 use crate::nets::{inputs, product, word_a, word_b};
 use crate::size::{LEAST_SIZE, MOST_SIZE};
+use std::alloc::{AllocError, Global};
 
 /// The texts of the check of a multiplier of two words of `size` bits: its netlist, in the `.bench` format of the ISCAS
 /// circuits, and its specification.
