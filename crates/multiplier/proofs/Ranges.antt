@@ -1,5 +1,5 @@
 -- Lists that grow by what stands for the next number of a range.
-use Rattle.std.proofs.Common.{◌≡◌, ℕ, zero, suc, ◌+◌, List, [], ◌∷◌, ◌++◌, map, refl, sym, ap, ◌∙◌, append_assoc, arith}
+use Rattle.std.proofs.Common.{◌≡◌, ℕ, zero, suc, ◌+◌, List, [], ◌∷◌, ◌++◌, map, sym, ap, ◌∙◌, append_assoc, arith}
 use Rattle.std.specs.List.{flat_map, range_with_len}
 use Rattle.std.proofs.lemmas.List.{flat_map_more}
 use Rattle.std.proofs.lemmas.List.FromFn.{map-range_with_len_more}
@@ -9,7 +9,8 @@ range_with_len-more a zero j at = ap (λ k. k ∷ []) (omega arith)
 range_with_len-more a (suc n) j at = ap (λ ks. a ∷ ks) (range_with_len-more (a + 1) n j (omega arith))
 
 -- a list that goes on with the next element
-pub map-more : {X : Type 0} (f : ℕ → X) (n : ℕ) (start old new : List X) → old ≡ start ++ map f (range_with_len 0 n) → new ≡ old ++ f n ∷ [] → new ≡ start ++ map f (range_with_len 0 (n + 1))
+pub map-more : {X : Type 0} (f : ℕ → X) (n : ℕ) (start old new : List X)
+    → old ≡ start ++ map f (range_with_len 0 n) → new ≡ old ++ f n ∷ [] → new ≡ start ++ map f (range_with_len 0 (n + 1))
 map-more f n start old new is_old is_new =
     is_new
     ∙ ap (λ xs. xs ++ f n ∷ []) is_old

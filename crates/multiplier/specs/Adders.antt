@@ -31,7 +31,8 @@ full_adder row column x y z =
     ∷ gate (Carry row column) Or (FirstCarry row column) (SecondCarry row column)
     ∷ []
 
--- what comes from the row above: in the last column its last carry, which the first row has not; else the bit one column on
+-- what comes from the row above (for row 1, the partial products of row 0): its bit one column on; in the last column its last carry,
+-- which row 0 has not
 abbrev pub above : ℕ → ℕ → ℕ → Option Net
 above size row column =
     if nat_lt (column + 1) size
@@ -64,7 +65,7 @@ adders size = flat_map (adder_row size) (range_with_len 1 (size - 1))
 abbrev pub gates : ℕ → List Gate
 gates size = partial_products size ++ adders size
 
--- the row of three bits whose first adder is full in the middle alone
+-- what is added at each column of both rows, for three bits
 first_row_of_three : map (addends 3 1) (range_with_len 0 3)
     ≡ (Partial 0 1 ∷ Partial 1 0 ∷ []) ∷ (Partial 1 1 ∷ Partial 2 0 ∷ Carry 1 0 ∷ []) ∷ (Partial 2 1 ∷ Carry 1 1 ∷ []) ∷ []
 first_row_of_three = refl

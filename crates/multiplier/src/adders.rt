@@ -1,10 +1,9 @@
 ghost use Rattle.std.specs.Prelude.{◌≡◌, ◌≤◌, ◌<◌, ◌++◌, IfOk, OnOk};
 ghost use Rattle.multiplier.specs.Adders.{above, adder, adder_row, adders, beside, full_adder, gates, half_adder, partial_product, partial_products, partial_row};
 
-use std::alloc::{AllocError, Global};
-
 use crate::gate::{Gate, Operation};
 use crate::net::Net;
+use std::alloc::{AllocError, Global};
 
 /// The gates of the multiplier, each behind those that drive its operands.
 pub(crate) fn gates(alloc: Global, size: u32) -> Result<Vec<Gate>, AllocError>

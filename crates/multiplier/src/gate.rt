@@ -1,9 +1,8 @@
 ghost use Rattle.std.specs.Prelude.{◌≡◌, Some};
 ghost use Rattle.multiplier.specs.Gates.{gate, gate_text, operation_text};
 
-use std::fmt;
-
 use crate::net::Net;
+use std::fmt;
 
 /// What a gate computes of its operands.
 #[derive(Clone, Copy, Debug, PartialEq, Eq)]

@@ -1,10 +1,9 @@
 ghost use Rattle.std.specs.Prelude.{◌≡◌, ◌≤◌, IfOk};
 ghost use Rattle.multiplier.specs.Nets.{inputs, product, word_a, word_b};
 
+use crate::net::Net;
 use std::alloc::{AllocError, Global};
 use std::iter::once;
-
-use crate::net::Net;
 
 /// The bits of the first operand, lowest first.
 pub(crate) fn word_a(alloc: Global, size: u32) -> Result<Vec<Net>, AllocError>
@@ -25,7 +24,9 @@ pub(crate) fn inputs(alloc: Global, size: u32) -> Result<Vec<Net>, AllocError>
     ensures { IfOk result (λ nets. nets.items ≡ inputs size) }
 {
     let word_a = (0..size).map(|bit| Net::A(bit));
-    word_a.chain((0..size).map(|bit| Net::B(bit))).collect(alloc)
+    word_a
+        .chain((0..size).map(|bit| Net::B(bit)))
+        .collect(alloc)
 }
 
 /// The bits of the product, lowest first.

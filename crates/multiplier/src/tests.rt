@@ -8,10 +8,31 @@ use crate::nets::product;
 use std::alloc::Global;
 use std::test::Fail;
 
-const NETLIST_OF_TWO: &str = "INPUT(a0)\nINPUT(a1)\nINPUT(b0)\nINPUT(b1)\nOUTPUT(p0_0)\nOUTPUT(s1_0)\nOUTPUT(s1_1)\nOUTPUT(c1_1)\np0_0 = AND(a0, b0)\np1_0 = AND(a1, b0)\np0_1 = AND(a0, b1)\np1_1 = AND(a1, b1)\ns1_0 = XOR(p0_1, p1_0)\nc1_0 = AND(p0_1, p1_0)\ns1_1 = XOR(p1_1, c1_0)\nc1_1 = AND(p1_1, c1_0)\n";
+const NETLIST_OF_TWO: &str = "\
+INPUT(a0)
+INPUT(a1)
+INPUT(b0)
+INPUT(b1)
+OUTPUT(p0_0)
+OUTPUT(s1_0)
+OUTPUT(s1_1)
+OUTPUT(c1_1)
+p0_0 = AND(a0, b0)
+p1_0 = AND(a1, b0)
+p0_1 = AND(a0, b1)
+p1_1 = AND(a1, b1)
+s1_0 = XOR(p0_1, p1_0)
+c1_0 = AND(p0_1, p1_0)
+s1_1 = XOR(p1_1, c1_0)
+c1_1 = AND(p1_1, c1_0)
+";
 
-const SPECIFICATION_OF_TWO: &str =
-    "word a = a0 a1\nword b = b0 b1\nword m = p0_0 s1_0 s1_1 c1_1\ncheck m == a * b\n";
+const SPECIFICATION_OF_TWO: &str = "\
+word a = a0 a1
+word b = b0 b1
+word m = p0_0 s1_0 s1_1 c1_1
+check m == a * b
+";
 
 #[test]
 fn two_bits_have_eight_gates(rt: HostRuntime) -> Result<(), Fail> {
@@ -35,9 +56,15 @@ fn line_count(text: &[u8]) -> usize {
 #[test]
 fn each_input_output_and_gate_has_a_line(rt: HostRuntime) -> Result<(), Fail> {
     let (netlist, specification) = generate(rt.alloc(), 3)?;
-    assert_eq!(rt; (line_count(&netlist), line_count(&specification)), (6 + 6 + 30, 4));
+    assert_eq!(rt;
+        (line_count(&netlist), line_count(&specification)),
+        (6 + 6 + 30, 4)
+    );
     let (netlist, specification) = generate(rt.alloc(), 16)?;
-    assert_eq!(rt; (line_count(&netlist), line_count(&specification)), (32 + 32 + 1408, 4));
+    assert_eq!(rt;
+        (line_count(&netlist), line_count(&specification)),
+        (32 + 32 + 1408, 4)
+    );
     Ok(())
 }
 

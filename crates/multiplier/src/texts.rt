@@ -2,13 +2,12 @@ ghost use Rattle.std.specs.Prelude.{◌≡◌, ◌≤◌, ◌++◌, IfOk, OnOk, 
 ghost use Rattle.std.specs.List.{flat_map};
 ghost use Rattle.multiplier.specs.Texts.{between, gate_line, netlist_text, spec_text, word_line};
 
-use std::alloc::{AllocError, Global};
-
 use crate::adders::gates;
 use crate::gate::Gate;
 use crate::net::Net;
 use crate::nets::{inputs, product, word_a, word_b};
 use crate::size::{LEAST_SIZE, MOST_SIZE};
+use std::alloc::{AllocError, Global};
 
 /// The texts of the check of a multiplier of two words of `size` bits: its netlist, in the `.bench` format of the ISCAS
 /// circuits, and its specification.
@@ -50,7 +49,8 @@ fn spec_text(alloc: Global, size: u32) -> Result<String, AllocError>
 
 /// Appends the line of a word, by its nets from the lowest up.
 fn push_word(text: &mut String, name: &str, nets: &[Net]) -> Result<(), AllocError>
-    ensures { OnOk result (string_bytes text.new ≡ string_bytes text.old ++ word_line name.now nets.now) }
+    ensures { OnOk result (string_bytes text.new
+        ≡ string_bytes text.old ++ word_line name.now nets.now) }
 {
     write!(text, "word {name} =")?;
     push_nets(text, " ", nets, "")?;
@@ -70,7 +70,8 @@ fn push_nets(text: &mut String, before: &str, nets: &[Net], after: &str) -> Resu
 
 /// Appends the line of each gate.
 fn push_gates(text: &mut String, gates: &[Gate]) -> Result<(), AllocError>
-    ensures { OnOk result (string_bytes text.new ≡ string_bytes text.old ++ flat_map gate_line gates.now) }
+    ensures { OnOk result (string_bytes text.new
+        ≡ string_bytes text.old ++ flat_map gate_line gates.now) }
 {
     for gate in gates {
         write!(text, "{gate}\n")?;

@@ -13,9 +13,11 @@ returns c =
     (YieldsList-at c.chain-3.ensures.first (YieldsList-from_chain
     (YieldsList-at c.chain-2.ensures.first (YieldsList-from_chain
     (YieldsList-from_once (Some (Partial 0 0)) (cc))
-    (YieldsList-at c.chain.ensures.second (YieldsList-from_map _ (λ row. Sum row 0) (YieldsList-from_range 1 size last (cc) refl) c.map.ensures.closure (λ x r q k. search rules)))
+    (YieldsList-at c.chain.ensures.second (YieldsList-from_map _ (λ row. Sum row 0)
+    (YieldsList-from_range 1 size last (cc) refl) c.map.ensures.closure (λ x r q k. search rules)))
     (cc) (cc)))
-    (YieldsList-at c.chain-2.ensures.second (YieldsList-from_map _ (λ column. Sum last column) (YieldsList-from_range 1 size last (cc) refl) c.map-2.ensures.closure (λ x r q k. search rules)))
+    (YieldsList-at c.chain-2.ensures.second (YieldsList-from_map _ (λ column. Sum last column)
+    (YieldsList-from_range 1 size last (cc) refl) c.map-2.ensures.closure (λ x r q k. search rules)))
     (cc) (cc)))
     (YieldsList-from_once (Some (Carry last last)) (cc))
     (cc) (cc))
