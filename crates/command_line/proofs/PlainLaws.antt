@@ -14,7 +14,7 @@ use Rattle.settings.specs.declared.Settings.{Settings}
 use Rattle.word_base.specs.declared.KindName.{KindName}
 use Rattle.word_base.specs.declared.KindName.TheVariants.{StarBmd}
 use Rattle.command_line.specs.PlainWords.{check_words, gen_words, pair_of, pairs_of, word_of}
-use Rattle.command_line.specs.Taken.{Says, SayName, SaySettings, SaySize}
+use Rattle.command_line.specs.Taken.{Means, HasName, HasSettings, HasSize}
 
 -- the type of what is given, which its crate keeps to itself
 abbrev TypeOf : {T : Type 0} → T → Type 0
@@ -33,22 +33,22 @@ abbrev meant : {T : Type 0} → Option Text → T → Option T
 meant None meaning = None
 meant (Some value) meaning = Some meaning
 
-meant_or_usual : {T : Type 0} → (read : Text → Option T) (usual : T) (value : Option Text) (meaning : T) → Says read usual value meaning
+meant_or_usual : {T : Type 0} → (read : Text → Option T) (usual : T) (value : Option Text) (meaning : T) → Means read usual value meaning
     → unwrap_or (meant value meaning) usual ≡ meaning
 meant_or_usual read usual None meaning says = sym says
 meant_or_usual read usual (Some value) meaning says = refl
 
-adds_kind : (value : Option Text) (kind : KindName) → Says kind_of StarBmd value kind
+adds_kind : (value : Option Text) (kind : KindName) → Means kind_of StarBmd value kind
     → Adds nothing (codes "--kind") value (record nothing { kind = meant value kind })
 adds_kind None kind says = refl
 adds_kind (Some value) kind says = ap (option_map (λ (k : KindName). record nothing { kind = Some k })) says
 
-adds_method : (k : Option KindName) (value : Option Text) (method : Method) → Says method_of Forward value method
+adds_method : (k : Option KindName) (value : Option Text) (method : Method) → Means method_of Forward value method
     → Adds (record nothing { kind = k }) (codes "--method") value (record nothing { kind = k; method = meant value method })
 adds_method k None method says = refl
 adds_method k (Some value) method says = ap (option_map (λ (m : Method). record nothing { kind = k; method = Some m })) says
 
-adds_workers : (k : Option KindName) (m : Option Method) (value : Option Text) (workers : ℕ) → Says number_of 1 value workers
+adds_workers : (k : Option KindName) (m : Option Method) (value : Option Text) (workers : ℕ) → Means number_of 1 value workers
     → Adds (record nothing { kind = k; method = m }) (codes "--workers") value
     (record nothing { kind = k; method = m; workers = meant value workers })
 adds_workers k m None workers says = refl
@@ -56,7 +56,7 @@ adds_workers k m (Some value) workers says =
     ap (option_map (λ (n : ℕ). record nothing { kind = k; method = m; workers = Some n })) says
 
 adds_cells : (k : Option KindName) (m : Option Method) (w : Option ℕ) (value : Option Text) (cells : ℕ)
-    → Says number_of 262144 value cells
+    → Means number_of 262144 value cells
     → Adds (record nothing { kind = k; method = m; workers = w }) (codes "--cells") value
     (record nothing { kind = k; method = m; workers = w; cells = meant value cells })
 adds_cells k m w None cells says = refl
@@ -86,7 +86,7 @@ given_by rows settings = record nothing {
   cells = meant (first_of (codes "cells") rows) settings.cells;
 }
 
-pairs_said : (rows : List Row) (settings : Settings) → SaySettings rows settings → (last : List Text) → 0 < length last
+pairs_said : (rows : List Row) (settings : Settings) → HasSettings rows settings → (last : List Text) → 0 < length last
     → pairs nothing (pairs_of rows ++ last) ≡ pairs (given_by rows settings) last
 pairs_said rows settings says last some =
     let kind = first_of (codes "kind") rows in
@@ -109,7 +109,7 @@ pairs_said rows settings says last some =
     ∙ one_pair (codes "--workers") workers _ _ fourth some_fourth (adds_workers k m workers settings.workers says.workers)
     ∙ one_pair (codes "--cells") cells _ _ last some (adds_cells k m w cells settings.cells says.cells)
 
-with_usual_said : (rows : List Row) (settings : Settings) → SaySettings rows settings → with_usual (given_by rows settings) ≡ settings
+with_usual_said : (rows : List Row) (settings : Settings) → HasSettings rows settings → with_usual (given_by rows settings) ≡ settings
 with_usual_said rows settings says =
     let kind = meant_or_usual kind_of StarBmd (first_of (codes "kind") rows) settings.kind says.kind in
     let method = meant_or_usual method_of Forward (first_of (codes "method") rows) settings.method says.method in
@@ -117,7 +117,7 @@ with_usual_said rows settings says =
     let cells = meant_or_usual number_of 262144 (first_of (codes "cells") rows) settings.cells says.cells in
     rw (kind, method, workers, cells) refl
 
-settings_said : (rows : List Row) (settings : Settings) → SaySettings rows settings
+settings_said : (rows : List Row) (settings : Settings) → HasSettings rows settings
     → settings_of (given_by rows settings) ≡ Some settings
 settings_said rows settings says =
     ap (λ (s : Settings). if is_within s.workers s.cells then Some s else None) (with_usual_said rows settings says)
@@ -128,7 +128,7 @@ abbrev read_front : Text → Option (Given × List Text) → Option PlainCommand
 read_front command =
     option_and_then (λ front. option_and_then (λ settings. command_by command settings front.1) (settings_of front.0))
 
-front_said : (command : Text) (rows : List Row) (settings : Settings) → SaySettings rows settings
+front_said : (command : Text) (rows : List Row) (settings : Settings) → HasSettings rows settings
     → (last : List Text) → 0 < length last → ((given : Given) → pairs given last ≡ Some (given, last))
     → in_plain_form (command ∷ (pairs_of rows ++ last)) ≡ command_by command settings last
 front_said command rows settings says last some ends =
@@ -143,15 +143,15 @@ joined : (front : List Text) (a b : Option Text) (x y : Text) → a ≡ Some x �
     → (front ++ word_of a) ++ word_of b ≡ front ++ (x ∷ y ∷ [])
 joined front a b x y first second = rw (first, second) (append_assoc front (x ∷ []) (y ∷ []))
 
-pub check_said : (rows : List Row) (settings : Settings) (netlist spec : Text) → SaySettings rows settings
-    → SayName rows (codes "NETLIST") netlist → SayName rows (codes "SPEC") spec
+pub check_said : (rows : List Row) (settings : Settings) (netlist spec : Text) → HasSettings rows settings
+    → HasName rows (codes "NETLIST") netlist → HasName rows (codes "SPEC") spec
     → in_plain_form (check_words rows) ≡ Some (check settings netlist spec)
 check_said rows settings netlist spec says first second =
     ap (λ words. in_plain_form (codes "check" ∷ words)) (joined (pairs_of rows) _ _ netlist spec first.value second.value)
     ∙ front_said (codes "check") rows settings says (netlist ∷ spec ∷ []) (lit< tt) (λ given. refl)
     ∙ named settings netlist spec first.allowed second.allowed
 
-pub gen_said : (rows : List Row) (settings : Settings) (size : ℕ) → SaySettings rows settings → SaySize rows size
+pub gen_said : (rows : List Row) (settings : Settings) (size : ℕ) → HasSettings rows settings → HasSize rows size
     → in_plain_form (gen_words rows) ≡ Some (gen settings size)
 gen_said rows settings size says last =
     ap (λ word. in_plain_form (codes "gen" ∷ (pairs_of rows ++ word_of word))) last.value

@@ -6,12 +6,12 @@ use Rattle.settings.specs.Commands.{PlainCommand, check, gen, command_of as in_p
 use Rattle.command_line.specs.Apps.{check_app, gen_app}
 use Rattle.command_line.specs.Commands.{by_clap, check_of, command_of, gen_of, or_by_clap}
 use Rattle.command_line.specs.PlainWords.{check_words, gen_words}
-use Rattle.command_line.specs.Taken.{IsTaken, SayCommand, TakenWordsAreRead, app_for, name_of}
+use Rattle.command_line.specs.Taken.{IsTaken, HasCommand, TakenWordsAreRead, app_for, name_of}
 use Rattle.command_line.proofs.FoundLaws.{accepted}
 use Rattle.command_line.proofs.PlainLaws.{check_said, gen_said}
 
 taken_by_clap : (command : PlainCommand) (rest : List Text) → fault_of (app_for command) rest ≡ []
-    → SayCommand (matches_of (app_for command) rest) command → by_clap (name_of command ∷ rest) ≡ Some command
+    → HasCommand (matches_of (app_for command) rest) command → by_clap (name_of command ∷ rest) ≡ Some command
 taken_by_clap (check settings netlist spec) rest promised says =
     ap (option_and_then (λ rows. in_plain_form (check_words rows))) (accepted check_app rest _ promised refl)
     ∙ check_said (matches_of check_app rest) settings netlist spec says.0 says.1 says.2

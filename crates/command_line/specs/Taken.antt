@@ -13,32 +13,32 @@ use Rattle.command_line.specs.Apps.{check_app, gen_app}
 use Rattle.command_line.specs.Commands.{command_of}
 
 -- what an option says: the usual where no value is found, and else a value that plain form has to allow
-abbrev pub Says : {T : Type 0} → (Text → Option T) → T → Option Text → T → Type 0
-Says read usual None meaning = meaning ≡ usual
-Says read usual (Some value) meaning = read value ≡ Some meaning
+abbrev pub Means : {T : Type 0} → (Text → Option T) → T → Option Text → T → Type 0
+Means read usual None meaning = meaning ≡ usual
+Means read usual (Some value) meaning = read value ≡ Some meaning
 
 -- the options say these settings, which are within the limits
-pub record SaySettings (rows : List Row) (settings : Settings) : Type 0 where
-  pub kind : Says kind_of StarBmd (first_of (codes "kind") rows) settings.kind
-  pub method : Says method_of Forward (first_of (codes "method") rows) settings.method
-  pub workers : Says number_of 1 (first_of (codes "workers") rows) settings.workers
-  pub cells : Says number_of 262144 (first_of (codes "cells") rows) settings.cells
+pub record HasSettings (rows : List Row) (settings : Settings) : Type 0 where
+  pub kind : Means kind_of StarBmd (first_of (codes "kind") rows) settings.kind
+  pub method : Means method_of Forward (first_of (codes "method") rows) settings.method
+  pub workers : Means number_of 1 (first_of (codes "workers") rows) settings.workers
+  pub cells : Means number_of 262144 (first_of (codes "cells") rows) settings.cells
   pub within : is_within settings.workers settings.cells ≡ true
 
-pub record SayName (rows : List Row) (place name : Text) : Type 0 where
+pub record HasName (rows : List Row) (place name : Text) : Type 0 where
   pub value : first_of place rows ≡ Some name
   pub allowed : is_name name ≡ true
 
-pub record SaySize (rows : List Row) (size : ℕ) : Type 0 where
+pub record HasSize (rows : List Row) (size : ℕ) : Type 0 where
   pub text : Text
   pub value : first_of (codes "SIZE") rows ≡ Some text
   pub allowed : size_of text ≡ Some size
 
 -- the values in matches, each read in its place, are those of the command
-abbrev pub SayCommand : List Row → PlainCommand → Type 0
-SayCommand rows (check settings netlist spec) =
-    SaySettings rows settings × SayName rows (codes "NETLIST") netlist × SayName rows (codes "SPEC") spec
-SayCommand rows (gen settings size) = SaySettings rows settings × SaySize rows size
+abbrev pub HasCommand : List Row → PlainCommand → Type 0
+HasCommand rows (check settings netlist spec) =
+    HasSettings rows settings × HasName rows (codes "NETLIST") netlist × HasName rows (codes "SPEC") spec
+HasCommand rows (gen settings size) = HasSettings rows settings × HasSize rows size
 
 abbrev pub name_of : PlainCommand → Text
 name_of (check settings netlist spec) = codes "check"
@@ -54,7 +54,7 @@ pub record IsTaken (words : List Text) (command : PlainCommand) : Type 0 where
   pub named : words ≡ name_of command ∷ rest
   -- clap's promise: where nothing is at fault, an error is want of memory
   pub promised : fault_of (app_for command) rest ≡ []
-  pub values : SayCommand (matches_of (app_for command) rest) command
+  pub values : HasCommand (matches_of (app_for command) rest) command
 
 -- the contract of a function of src/laws.rt
 abbrev pub TakenWordsAreRead : Type 0
