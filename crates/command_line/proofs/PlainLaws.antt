@@ -14,22 +14,22 @@ use Rattle.settings.specs.declared.Settings.{Settings}
 use Rattle.word_base.specs.declared.KindName.{KindName}
 use Rattle.word_base.specs.declared.KindName.TheVariants.{StarBmd}
 use Rattle.command_line.specs.PlainWords.{check_words, gen_words, pair_of, pairs_of, word_of}
-use Rattle.command_line.specs.Taken.{Means, HasName, HasSettings, HasSize}
+use Rattle.command_line.specs.Taken.{Means, HasName, HasSettings, HasSize, MeanOptions}
 
 -- the type of what is given, which its crate keeps to itself
-abbrev TypeOf : {T : Type 0} → T → Type 0
+abbrev pub TypeOf : {T : Type 0} → T → Type 0
 TypeOf {T} value = T
 
-abbrev Given : Type 0
+abbrev pub Given : Type 0
 Given = TypeOf nothing
 
 -- a pair, if there is one, leads from one given to another
-abbrev Adds : Given → Text → Option Text → Given → Type 0
+abbrev pub Adds : Given → Text → Option Text → Given → Type 0
 Adds given option None more = more ≡ given
 Adds given option (Some value) more = with_pair given option value ≡ Some more
 
 -- the meaning of an option, where a value is found
-abbrev meant : {T : Type 0} → Option Text → T → Option T
+abbrev pub meant : {T : Type 0} → Option Text → T → Option T
 meant None meaning = None
 meant (Some value) meaning = Some meaning
 
@@ -70,15 +70,15 @@ one_pair option value given more [] some adds = absurd (omega arith)
 one_pair option None given more (word ∷ rest) some adds = ap (λ g. pairs g (word ∷ rest)) (sym adds)
 one_pair option (Some value) given more (word ∷ rest) some adds = ap (option_and_then (λ g. pairs g (word ∷ rest))) adds
 
-longer : (option : Text) (value : Option Text) (rest : List Text) → 0 < length rest → 0 < length (pair_of option value ++ rest)
+pub longer : (option : Text) (value : Option Text) (rest : List Text) → 0 < length rest → 0 < length (pair_of option value ++ rest)
 longer option None rest some = some
 longer option (Some value) rest some = omega arith
 
-regrouped : (a b c d e : List Text) → (((a ++ b) ++ c) ++ d) ++ e ≡ a ++ (b ++ (c ++ (d ++ e)))
+pub regrouped : (a b c d e : List Text) → (((a ++ b) ++ c) ++ d) ++ e ≡ a ++ (b ++ (c ++ (d ++ e)))
 regrouped a b c d e = simp append_assoc
 
 -- what the options give
-abbrev given_by : List Row → Settings → Given
+abbrev pub given_by : List Row → Settings → Given
 given_by rows settings = record nothing {
   kind = meant (first_of (codes "kind") rows) settings.kind;
   method = meant (first_of (codes "method") rows) settings.method;
@@ -86,7 +86,7 @@ given_by rows settings = record nothing {
   cells = meant (first_of (codes "cells") rows) settings.cells;
 }
 
-pairs_said : (rows : List Row) (settings : Settings) → HasSettings rows settings → (last : List Text) → 0 < length last
+pairs_said : (rows : List Row) (settings : Settings) → MeanOptions rows settings → (last : List Text) → 0 < length last
     → pairs nothing (pairs_of rows ++ last) ≡ pairs (given_by rows settings) last
 pairs_said rows settings says last some =
     let kind = first_of (codes "kind") rows in
@@ -109,7 +109,7 @@ pairs_said rows settings says last some =
     ∙ one_pair (codes "--workers") workers _ _ fourth some_fourth (adds_workers k m workers settings.workers says.workers)
     ∙ one_pair (codes "--cells") cells _ _ last some (adds_cells k m w cells settings.cells says.cells)
 
-with_usual_said : (rows : List Row) (settings : Settings) → HasSettings rows settings → with_usual (given_by rows settings) ≡ settings
+pub with_usual_said : (rows : List Row) (settings : Settings) → MeanOptions rows settings → with_usual (given_by rows settings) ≡ settings
 with_usual_said rows settings says =
     let kind = meant_or_usual kind_of StarBmd (first_of (codes "kind") rows) settings.kind says.kind in
     let method = meant_or_usual method_of Forward (first_of (codes "method") rows) settings.method says.method in
@@ -120,11 +120,11 @@ with_usual_said rows settings says =
 settings_said : (rows : List Row) (settings : Settings) → HasSettings rows settings
     → settings_of (given_by rows settings) ≡ Some settings
 settings_said rows settings says =
-    ap (λ (s : Settings). if is_within s.workers s.cells then Some s else None) (with_usual_said rows settings says)
+    ap (λ (s : Settings). if is_within s.workers s.cells then Some s else None) (with_usual_said rows settings says.options)
     ∙ (rw says.within refl)
 
 -- a command word, pairs and last words
-abbrev read_front : Text → Option (Given × List Text) → Option PlainCommand
+abbrev pub read_front : Text → Option (Given × List Text) → Option PlainCommand
 read_front command =
     option_and_then (λ front. option_and_then (λ settings. command_by command settings front.1) (settings_of front.0))
 
@@ -132,7 +132,7 @@ front_said : (command : Text) (rows : List Row) (settings : Settings) → HasSet
     → (last : List Text) → 0 < length last → ((given : Given) → pairs given last ≡ Some (given, last))
     → in_plain_form (command ∷ (pairs_of rows ++ last)) ≡ command_by command settings last
 front_said command rows settings says last some ends =
-    ap (read_front command) (pairs_said rows settings says last some ∙ ends (given_by rows settings))
+    ap (read_front command) (pairs_said rows settings says.options last some ∙ ends (given_by rows settings))
     ∙ ap (option_and_then (λ s. command_by command s last)) (settings_said rows settings says)
 
 named : (settings : Settings) (netlist spec : Text) → is_name netlist ≡ true → is_name spec ≡ true
