@@ -7,7 +7,7 @@ use Rattle.checks.specs.declared.Method.TheVariants.{Forward}
 use Rattle.clap.specs.Words.{Row, Text, first_of}
 use Rattle.settings.specs.Commands.{PlainCommand, check, gen, check_of, command_by, command_of as in_plain_form}
 use Rattle.settings.specs.Limits.{is_within, settings_of, with_usual}
-use Rattle.settings.specs.Numbers.{number_of, size_of}
+use Rattle.settings.specs.Numbers.{number_of}
 use Rattle.settings.specs.Pairs.{nothing, pairs, with_pair}
 use Rattle.settings.specs.Words.{is_name, kind_of, method_of}
 use Rattle.settings.specs.declared.Settings.{Settings}

@@ -1,5 +1,5 @@
 -- Values that are read in the words of plain form mean something.
-use Rattle.std.proofs.Common.{◌≡◌, ◌<◌, ◌++◌, ◌∙◌, ap, sym, subst, refl, arith, append_assoc, codes, length, lit<, Bool, true, false, List, [], ◌∷◌, Option, Some, None}
+use Rattle.std.proofs.Common.{◌≡◌, ◌<◌, ◌++◌, ◌∙◌, ap, sym, refl, arith, append_assoc, codes, length, lit<, Bool, true, false, List, [], ◌∷◌, Option, Some, None}
 use Rattle.std.proofs.lemmas.Bool.{and_parts}
 use Rattle.std.proofs.lemmas.List.{append-nil}
 use Rattle.std.specs.Prelude.{ℕ, ◌&&◌, if◌then◌else◌}
@@ -16,7 +16,7 @@ use Rattle.settings.specs.declared.Settings.{Settings}
 use Rattle.word_base.specs.declared.KindName.{KindName}
 use Rattle.word_base.specs.declared.KindName.TheVariants.{StarBmd}
 use Rattle.command_line.specs.PlainWords.{check_words, gen_words, pair_of, pairs_of, word_of}
-use Rattle.command_line.specs.Taken.{HasCommand, HasName, HasSettings, HasSize, MeanOptions, Means}
+use Rattle.command_line.specs.Taken.{HasName, HasSettings, HasSize, MeanOptions, Means}
 use Rattle.command_line.proofs.PlainLaws.{Adds, Given, given_by, longer, meant, read_front, regrouped, with_usual_said}
 
 -- ---- answers that are there
@@ -46,6 +46,17 @@ first_pair option value given [] front some is = absurd (omega arith)
 first_pair option None given (word ∷ rest) front some is = (given, refl, is)
 first_pair option (Some value) given (word ∷ rest) front some is =
     bound (with_pair given option value) (λ more. pairs more (word ∷ rest)) front is
+
+-- the same, where what the pair adds is known by its meaning
+next_pair : {T : Type 0} → (IsMeant : T → Type 0) (known : T → Given) (option : Text) (value : Option Text) (given : Given)
+    (rest : List Text) (front : Given × List Text)
+    → ((more : Given) → Adds given option value more → (meaning : T) × IsMeant meaning × (more ≡ known meaning)) → 0 < length rest
+    → pairs given (pair_of option value ++ rest) ≡ Some front
+    → (meaning : T) × IsMeant meaning × (pairs (known meaning) rest ≡ Some front)
+next_pair IsMeant known option value given rest front means some is =
+    let a = first_pair option value given rest front some is in
+    let m = means a.0 a.1 in
+    (m.0, m.1, sym (ap (λ (g : Given). pairs g rest) m.2) ∙ a.2)
 
 kind_means : (value : Option Text) (more : Given) → Adds nothing (codes "--kind") value more
     → (kind : KindName) × Means kind_of StarBmd value kind × (more ≡ record nothing { kind = meant value kind })
@@ -95,24 +106,22 @@ options_read rows last front some is =
     let grouped : pairs nothing (pair_of (codes "--kind") kind ++ second) ≡ Some front =
     sym (ap (pairs nothing) (regrouped (pair_of (codes "--kind") kind) (pair_of (codes "--method") method)
     (pair_of (codes "--workers") workers) (pair_of (codes "--cells") cells) last)) ∙ is in
-    let a = first_pair (codes "--kind") kind nothing second front some_second grouped in
-    let k = kind_means kind a.0 a.1 in
-    let given_k = record nothing { kind = meant kind k.0 } in
-    let b = first_pair (codes "--method") method given_k third front some_third
-    (sym (ap (λ (g : Given). pairs g second) k.2) ∙ a.2) in
-    let m = method_means (meant kind k.0) method b.0 b.1 in
-    let given_m = record given_k { method = meant method m.0 } in
-    let d = first_pair (codes "--workers") workers given_m fourth front some_fourth
-    (sym (ap (λ (g : Given). pairs g third) m.2) ∙ b.2) in
-    let w = workers_mean (meant kind k.0) (meant method m.0) workers d.0 d.1 in
-    let given_w = record given_m { workers = meant workers w.0 } in
-    let e = first_pair (codes "--cells") cells given_w last front some
-    (sym (ap (λ (g : Given). pairs g fourth) w.2) ∙ d.2) in
-    let c = cells_mean (meant kind k.0) (meant method m.0) (meant workers w.0) cells e.0 e.1 in
+    let k = next_pair (Means kind_of StarBmd kind) (λ k. record nothing { kind = meant kind k }) (codes "--kind") kind
+    nothing second front (kind_means kind) some_second grouped in
+    let m = next_pair (Means method_of Forward method) (λ m. record nothing { kind = meant kind k.0; method = meant method m })
+    (codes "--method") method (record nothing { kind = meant kind k.0 }) third front (method_means (meant kind k.0) method) some_third k.2 in
+    let w = next_pair (Means number_of 1 workers)
+    (λ w. record nothing { kind = meant kind k.0; method = meant method m.0; workers = meant workers w })
+    (codes "--workers") workers (record nothing { kind = meant kind k.0; method = meant method m.0 }) fourth front
+    (workers_mean (meant kind k.0) (meant method m.0) workers) some_fourth m.2 in
+    let c = next_pair (Means number_of 262144 cells)
+    (λ c. record nothing { kind = meant kind k.0; method = meant method m.0; workers = meant workers w.0; cells = meant cells c })
+    (codes "--cells") cells (record nothing { kind = meant kind k.0; method = meant method m.0; workers = meant workers w.0 }) last front
+    (cells_mean (meant kind k.0) (meant method m.0) (meant workers w.0) cells) some w.2 in
     record {
       settings = record { kind = k.0; method = m.0; workers = w.0; cells = c.0 };
       options = record { kind = k.1; method = m.1; workers = w.1; cells = c.1 };
-      rest = sym (ap (λ (g : Given). pairs g last) c.2) ∙ e.2;
+      rest = c.2;
     }
 
 -- ---- settings

@@ -7,7 +7,7 @@ use Rattle.std.specs.Str.{bytes_eq}
 use Rattle.clap.specs.Words.{App, Kinds, Row, Text, fault_of, matches_of}
 use Rattle.settings.specs.Commands.{PlainCommand, check, gen, command_of as in_plain_form}
 use Rattle.command_line.specs.Apps.{check_app, gen_app}
-use Rattle.command_line.specs.Commands.{by_clap, check_of, command_of, gen_of, or_by_clap}
+use Rattle.command_line.specs.Commands.{by_clap, check_of, gen_of, or_by_clap}
 use Rattle.command_line.specs.PlainWords.{check_words, gen_words}
 use Rattle.command_line.specs.Found.{found, unless_at_fault}
 use Rattle.command_line.specs.Taken.{IsTaken, HasCommand, ReadWordsAreTaken, TakenWordsAreRead, app_for, name_of}

@@ -1,5 +1,5 @@
 -- Examples of words in another order.
-use Rattle.std.specs.Prelude.{◌≡◌, List, [], ◌∷◌, codes, Some, None, true, refl}
+use Rattle.std.specs.Prelude.{◌≡◌, [], ◌∷◌, codes, Some, None, refl}
 use Rattle.checks.specs.declared.Method.TheVariants.{Forward}
 use Rattle.clap.proofs.OnLiterals.{clap_on_literals}
 use Rattle.settings.specs.Commands.{check, gen}
