@@ -1,3 +1,4 @@
 mod FoundLaws
 mod PlainLaws
+mod ReadLaws
 mod TakenLaw

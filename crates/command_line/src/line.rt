@@ -1,58 +1,14 @@
-ghost use Rattle.std.specs.Prelude.{◌≡◌, IfOk, IfSome, IsOkAnd, IsSome, OnErr, OnOk, true, ◌++◌, ◌∷◌};
+ghost use Rattle.std.specs.Prelude.{◌≡◌, IfOk, IfSome, IsOkAnd, IsSome, OnErr, true};
 ghost use Rattle.std.specs.Option.{option_map};
 ghost use Rattle.command_line.specs.Commands.{IsForClap, by_clap, check_of, command_of, gen_of, names_command};
-ghost use Rattle.command_line.specs.Found.{rows_in};
-ghost use Rattle.command_line.specs.PlainWords.{pair_of, pairs_of, word_of};
 ghost use Rattle.settings.specs.Commands.{IsWithinLimits, command_of as in_plain_form, said};
 ghost use Rattle.settings.specs.Words.{texts};
 
 use crate::apps::{check_app, gen_app};
-use crate::found::{found, value_of};
-use clap::ArgMatches;
+use crate::find::{found, value_of};
+use crate::plain_words::{push_word, with_pairs};
 use settings::Command;
 use std::alloc::{AllocError, Global};
-
-/// Pushes an option and its value, if one is given.
-fn push_pair<'a>(
-    words: &mut Vec<&'a str>,
-    option: &'a str,
-    value: Option<&'a str>,
-) -> Result<(), AllocError>
-    ensures { OnOk result (texts words.new.items ≡ texts words.old.items ++ pair_of option.entry.now (option_map (λ v. v.now) value.entry)) }
-{
-    if let Some(value) = value {
-        words.push(option)?;
-        words.push(value)?;
-    }
-    Ok(())
-}
-
-/// Pushes a value that has no option, if it is given.
-fn push_word<'a>(words: &mut Vec<&'a str>, value: Option<&'a str>) -> Result<(), AllocError>
-    ensures { OnOk result (texts words.new.items ≡ texts words.old.items ++ word_of (option_map (λ v. v.now) value.entry)) }
-{
-    if let Some(value) = value {
-        words.push(value)?;
-    }
-    Ok(())
-}
-
-/// The first words of plain form, by the values that were found.
-fn with_pairs<'a>(
-    alloc: Global,
-    command: &'a str,
-    found: &ArgMatches<'a>,
-) -> Result<Vec<&'a str>, AllocError>
-    ensures { IfOk result (λ words. texts words.items ≡ command.entry.now ∷ pairs_of (rows_in found.entry.now)) }
-{
-    let mut words = Vec::new(alloc);
-    words.push(command)?;
-    push_pair(&mut words, "--kind", value_of(found, "kind"))?;
-    push_pair(&mut words, "--method", value_of(found, "method"))?;
-    push_pair(&mut words, "--workers", value_of(found, "workers"))?;
-    push_pair(&mut words, "--cells", value_of(found, "cells"))?;
-    Ok(words)
-}
 
 /// The command of the values that clap finds in the words behind `check`.
 fn check_of<'a>(alloc: Global, words: &'a [&'a str]) -> Result<Option<Command<'a>>, AllocError>

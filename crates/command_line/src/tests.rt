@@ -29,7 +29,7 @@ fn gen_of_two(settings: Settings) -> Option<Command<'static>> {
 }
 
 #[test]
-fn options_stand_anywhere(rt: HostRuntime) -> Result<(), Fail> {
+fn options_stand_anywhere_by_names(rt: HostRuntime) -> Result<(), Fail> {
     let rows: [(&[&str], Settings); 12] = [
         (&["check", "n", "s"], USUAL),
         (&["check", "--kind", "hdd", "n", "s"], HYBRID),
@@ -74,7 +74,7 @@ fn options_stand_anywhere(rt: HostRuntime) -> Result<(), Fail> {
 }
 
 #[test]
-fn so_they_do_with_a_size(rt: HostRuntime) -> Result<(), Fail> {
+fn options_stand_anywhere_by_a_size(rt: HostRuntime) -> Result<(), Fail> {
     let two_workers = Settings {
         workers: 2,
         ..USUAL

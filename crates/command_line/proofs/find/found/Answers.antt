@@ -1,10 +1,10 @@
 use Rattle.std.proofs.Common.{◌≡◌, ◌∙◌, sym, inl, inr, true}
 use Rattle.std.proofs.lemmas.Bool.{and_parts}
-use Rattle.clap.specs.Words.{app_of, is_simple, kind_of}
+use Rattle.clap.specs.Words.{app_of, is_simple}
 use Rattle.settings.specs.Words.{texts}
 use Rattle.command_line.specs.Found.{rows_in}
 use Rattle.command_line.proofs.FoundLaws.{accepted, refused}
-use Rattle.command_line.proofs.found.found.Goals as goal
+use Rattle.command_line.proofs.find.found.Goals as goal
 
 pub returns-in-Ok : goal.returns-in-Ok
 returns-in-Ok c =

@@ -1,5 +1,5 @@
 use Rattle.command_line.proofs.TakenLaw.{taken}
-use Rattle.command_line.proofs.laws.taken.Goals as goal
+use Rattle.command_line.proofs.laws.taken_words_are_read.Goals as goal
 
 pub returns : goal.returns
 returns c = taken
