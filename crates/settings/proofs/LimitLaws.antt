@@ -7,7 +7,8 @@ use Rattle.settings.specs.Commands.{PlainCommand, check, gen, IsWithinLimits, sa
 use Rattle.settings.specs.declared.command.Command.{Command}
 use Rattle.settings.specs.declared.command.Settings.{Settings}
 use Rattle.settings.specs.declared.given.Given.{Given}
-use Rattle.settings.specs.declared.limits.TheConstants.{LEAST_SIZE, MOST_SIZE, MOST_WORKERS, MOST_CELLS, CELLS_OF_WORKER}
+use Rattle.multiplier.specs.declared.size.TheConstants.{LEAST_SIZE, MOST_SIZE}
+use Rattle.settings.specs.declared.limits.TheConstants.{MOST_WORKERS, MOST_CELLS, CELLS_OF_WORKER}
 use Rattle.settings.specs.Limits.{AreWithin, is_within, settings_of, with_usual}
 use Rattle.settings.specs.Numbers.{number_of, size_of}
 use Rattle.settings.specs.Pairs.{nothing, pairs}

@@ -5,7 +5,7 @@ use Rattle.std.specs.Str.{bytes_eq}
 use Rattle.settings.specs.declared.command.Command.{Command}
 use Rattle.settings.specs.declared.command.Command.TheVariants as commands
 use Rattle.settings.specs.declared.command.Settings.{Settings}
-use Rattle.settings.specs.declared.limits.TheConstants.{LEAST_SIZE, MOST_SIZE}
+use Rattle.multiplier.specs.declared.size.TheConstants.{LEAST_SIZE, MOST_SIZE}
 use Rattle.settings.specs.Limits.{AreWithin, settings_of}
 use Rattle.settings.specs.Numbers.{size_of}
 use Rattle.settings.specs.Pairs.{nothing, pairs}

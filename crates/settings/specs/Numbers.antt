@@ -4,7 +4,8 @@ use Rattle.std.specs.Char.{is_ascii_digit}
 use Rattle.std.specs.List.{list_all}
 use Rattle.std.specs.Option.{option_and_then}
 use Rattle.std.specs.Str.Parse.{digits_value}
-use Rattle.settings.specs.declared.limits.TheConstants.{LEAST_SIZE, MOST_SIZE, MOST_DIGITS}
+use Rattle.multiplier.specs.declared.size.TheConstants.{LEAST_SIZE, MOST_SIZE}
+use Rattle.settings.specs.declared.limits.TheConstants.{MOST_DIGITS}
 
 -- 48 is the digit 0
 abbrev pub is_number : List ℕ → Bool

@@ -14,7 +14,5 @@ mod tests;
 mod word;
 
 pub use command::{Command, Settings};
-pub use limits::{
-    CELLS_OF_WORKER, LEAST_SIZE, MOST_CELLS, MOST_SIZE, MOST_WORKERS, USUAL_CELLS, USUAL_WORKERS,
-};
+pub use limits::{CELLS_OF_WORKER, MOST_CELLS, MOST_WORKERS, USUAL_CELLS, USUAL_WORKERS};
 pub use plain::command_of;

@@ -13,11 +13,5 @@ pub const MOST_CELLS: u32 = 1_048_576;
 /// The least cells for each worker. The cells of a check are a multiple of it.
 pub const CELLS_OF_WORKER: u32 = 256;
 
-/// The least size of a multiplier that is made.
-pub const LEAST_SIZE: u32 = 2;
-
-/// The greatest size of a multiplier that is made.
-pub const MOST_SIZE: u32 = 16;
-
 /// The most digits of a number.
 pub(crate) const MOST_DIGITS: usize = 7;

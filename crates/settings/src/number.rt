@@ -3,7 +3,8 @@ ghost use Rattle.std.specs.List.{list_all};
 ghost use Rattle.std.specs.Char.{is_ascii_digit};
 ghost use Rattle.settings.specs.Numbers.{is_number, number_of, size_of};
 
-use crate::limits::{LEAST_SIZE, MOST_DIGITS, MOST_SIZE};
+use crate::limits::MOST_DIGITS;
+use multiplier::{LEAST_SIZE, MOST_SIZE};
 
 fn has_digits_only(word: &[u8]) -> bool
     ensures { result ≡ list_all is_ascii_digit word.now }
