@@ -1,15 +1,14 @@
 -- Products by those of the operands without their scales, and multiples by the scale put into an edge.
-use Rattle.std.proofs.Common.{◌≡◌, refl, sym, ◌∙◌, ap, subst, ℕ, ◌+◌, ℤ, pos, ◌*ℤ◌, List, [], ◌∷◌, true, false, length, drop, arith}
+use Rattle.std.proofs.Common.{◌≡◌, refl, sym, ◌∙◌, ap, subst, ℕ, ℤ, pos, List, true, false, length, drop, arith}
 use Rattle.std.specs.Prelude.{◌≢◌, Result, Ok, Err}
 use Rattle.std.proofs.lemmas.Bool.{false_from_ne_true}
 use Rattle.word_base.specs.declared.decomp.Decomp.{Decomp}
 use Rattle.word_base.specs.declared.kind_name.KindName.{KindName}
 use Rattle.word_base.specs.declared.kind_name.KindName.TheVariants.{Evbdd, StarBmd, Hdd, KStarBmd}
 use Rattle.tables.specs.Table.{Table, times, multiple}
-use Rattle.tables.specs.Tree.{Weights}
-use Rattle.tables.specs.Factors.{has_factor, IsFactor}
+use Rattle.tables.specs.Factors.{has_factor}
 use Rattle.tables.specs.Fits.{weights_in_range, fits}
-use Rattle.tables.specs.Pieces.{SomeUnfit, scale_work}
+use Rattle.tables.specs.Pieces.{scale_work}
 use Rattle.tables.proofs.FactorLaws.{factors_fit}
 use Rattle.tables.proofs.PieceLaws.{Covers}
 use Rattle.tables.proofs.TableLaws.{products_of_multiples}

@@ -1,5 +1,5 @@
 -- Multiples of tables and of their parts, and what the work of a multiple covers.
-use Rattle.std.proofs.Common.{◌≡◌, refl, sym, ◌∙◌, ap, subst, ℕ, zero, suc, ◌+◌, ◌<◌, ℤ, pos, ◌*ℤ◌, neg_ℤ, List, [], ◌∷◌, length, drop, true}
+use Rattle.std.proofs.Common.{◌≡◌, refl, sym, ◌∙◌, ap, subst, ℕ, suc, ◌+◌, ◌<◌, ℤ, pos, ◌*ℤ◌, neg_ℤ, List, [], ◌∷◌, length, drop, true}
 use Rattle.integers.proofs.Ring.{minus_one-*ℤ}
 use Rattle.word_base.specs.declared.decomp.Decomp.{Decomp}
 use Rattle.word_base.specs.declared.kind_name.KindName.{KindName}

@@ -1,12 +1,11 @@
 -- Edges without their scales, and with them put back: what they stand for.
-use Rattle.std.proofs.Common.{◌≡◌, refl, sym, ◌∙◌, ap, subst, ℕ, ℤ, pos, ◌*ℤ◌, List, true, length, drop}
+use Rattle.std.proofs.Common.{◌≡◌, refl, sym, ◌∙◌, ap, subst, ℕ, ℤ, pos, ◌*ℤ◌, length, drop}
 use Rattle.std.specs.Prelude.{◌≢◌}
-use Rattle.word_base.specs.declared.decomp.Decomp.{Decomp}
 use Rattle.word_base.specs.declared.kind_name.KindName.{KindName}
 use Rattle.word_base.specs.declared.kind_name.KindName.TheVariants.{Evbdd, StarBmd, Hdd, KStarBmd}
 use Rattle.record_store.specs.StoreView.{find_in}
-use Rattle.tables.specs.Table.{Table, IsOver, multiple}
-use Rattle.tables.specs.Tree.{Weights, Tree, constant}
+use Rattle.tables.specs.Table.{Table, multiple}
+use Rattle.tables.specs.Tree.{Weights, Tree}
 use Rattle.tables.specs.Canonical.{canonical}
 use Rattle.tables.specs.Factors.{IsFactor, factor_of, scaled_weights, unscaled_weights}
 use Rattle.tables.proofs.CanonicalLaws.{rule_of}
@@ -16,7 +15,6 @@ use Rattle.tables.proofs.TableLaws.{IsOver-each}
 use Rattle.kind_laws.specs.Graph.{HasShape}
 use Rattle.kind_laws.specs.Plain.{PlainEdge, constant_edge}
 use Rattle.kind_laws.specs.Scale.{scale_of, unscaled, MayScale, scaled}
-use Rattle.kind_laws.proofs.EdgeLaws.{same_numbers}
 use Rattle.kind_laws.proofs.ScaleLaws.{scaled-keeps_node, unscaled-keeps_node}
 use Rattle.diagram.specs.View.{View, StandsAt, IsEdge}
 use Rattle.diagram.proofs.LevelLaws.{allowed_from}

@@ -1,22 +1,21 @@
 -- A sum by that of the operands without their shifts, and the sum by both walks.
-use Rattle.std.proofs.Common.{◌≡◌, refl, sym, ◌∙◌, ap, subst, ℕ, zero, suc, ◌+◌, ◌<◌, ℤ, pos, ◌+ℤ◌, List, [], ◌∷◌, false, true, length, drop, arith, inl, inr}
+use Rattle.std.proofs.Common.{◌≡◌, refl, sym, ◌∙◌, ap, subst, ℕ, zero, suc, ℤ, pos, ◌+ℤ◌, List, [], ◌∷◌, false, length, drop, arith, inl, inr}
 use Rattle.std.specs.Prelude.{◌^◌, Result, Ok, Err, neg_ℤ}
 use Rattle.std.proofs.lemmas.List.Elements.{Contains-append_cases}
 use Rattle.word_base.specs.declared.decomp.Decomp.{Decomp}
 use Rattle.word_base.specs.declared.kind_name.KindName.{KindName}
 use Rattle.word_base.specs.declared.kind_name.KindName.TheVariants.{Evbdd, StarBmd, Hdd, KStarBmd}
-use Rattle.tables.specs.Table.{Table, entry, IsOver, plus}
+use Rattle.tables.specs.Table.{Table, entry, plus}
 use Rattle.tables.specs.Tree.{Shape, constant}
 use Rattle.tables.specs.Canonical.{canonical, IsNodeOf}
 use Rattle.tables.specs.Fits.{fits}
-use Rattle.tables.specs.Laws.{are_allowed}
 use Rattle.tables.specs.Pieces.{Piece, InNodes, SomeUnfit, add_work}
 use Rattle.tables.proofs.KindLaws.{constant-leaf}
 use Rattle.tables.proofs.PieceLaws.{Covers, covers_itself}
 use Rattle.tables.proofs.TableLaws.{IsOver-each, IsOver-zip_with}
 use Rattle.kind_laws.specs.Plain.{PlainEdge}
 use Rattle.kind_laws.specs.Scale.{shift_of, unshifted, shifted}
-use Rattle.diagram.specs.Answers.{Makes, HasCause, Answers}
+use Rattle.diagram.specs.Answers.{Makes, Answers}
 use Rattle.diagram.specs.Calls.{IsOfBoth}
 use Rattle.diagram.specs.Sums.{no_weight, sum_work}
 use Rattle.diagram.specs.View.{View, StandsAt, Keeps}

@@ -6,7 +6,7 @@ use Rattle.word_base.specs.declared.decomp.Decomp.TheVariants.{S, P, N}
 use Rattle.word_base.specs.declared.kind_name.KindName.{KindName}
 use Rattle.tables.specs.Table.{Table, entry, halves, IsOver, plus, minus, part0, part1, merged}
 use Rattle.tables.specs.Laws.{are_allowed}
-use Rattle.tables.specs.Pieces.{Piece, pieces, add_work, join_work}
+use Rattle.tables.specs.Pieces.{pieces, add_work, join_work}
 use Rattle.tables.proofs.PieceLaws.{Covers, covers_itself, covers_on, covers_beside, covers_left, covers_right, covers_low, covers_high, covers_join, covers_twice}
 use Rattle.tables.proofs.TableLaws.{both_halves, merged-parts, IsOver-zip_with, IsOver-part0, IsOver-part1}
 use Rattle.diagram.specs.Sums.{no_weight, sum_work}
