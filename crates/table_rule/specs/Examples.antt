@@ -111,5 +111,5 @@ spent_is = refl
 not_spent_is : is_spent small (fresh (0 ∷ [])) ≡ false
 not_spent_is = refl
 
-stamp_is : stamp_of (7 ∷ 9 ∷ []) small (record knower { gone = 3 ∷ 4 ∷ []; joined = 1; forked = true }) ≡ 7 ∷ 9 ∷ 2 ∷ 2 ∷ 1 ∷ 1 ∷ 1 ∷ []
+stamp_is : stamp_of (7 ∷ 9 ∷ []) small (record knower { gone = 3 ∷ 4 ∷ []; joined = 1; forked = true }) ≡ 2 ∷ 7 ∷ 9 ∷ 2 ∷ 2 ∷ 1 ∷ 1 ∷ 1 ∷ []
 stamp_is = refl

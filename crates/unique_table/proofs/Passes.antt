@@ -59,28 +59,6 @@ module _ (names : List ℕ) (L : Layout) where
       let node_long : length node ≡ 8 = ap (λ (n : List ℕ). length n) (sym is) in
       sym (eight_of node node_long) ∙ same_eight (slice_index node) (slice_index words) (λ j few. sym (same j few)) ∙ eight_of words long
 
-both_true : (a b : Bool) → (a && b) ≡ true → (a ≡ true) × (b ≡ true)
-both_true true b e = (refl, e)
-both_true false b e = absurd (true≢false (sym e))
-
-empty_is : (xs : List ℕ) → is_empty xs ≡ true → xs ≡ []
-empty_is [] e = refl
-empty_is (x ∷ xs) e = absurd (true≢false (sym e))
-
-below_is : (xs : List ℕ) (n : ℕ) → has_below xs n ≡ true → (h : ℕ) → h < n → IsIn xs h
-below_is xs zero e h few = absurd (omega arith)
-below_is xs (suc n) e h few =
-    let parts = both_true (nat_lt 0 (times n xs)) (has_below xs n) e in
-    ⊎_elim
-    (λ (last : h ≡ n). subst (IsIn xs) (sym last) (is_in_times n xs ((Decides-ltb 0 (times n xs)).0 parts.0)))
-    (λ (before : h ≢ n). below_is xs n parts.1 h (omega arith))
-    (cases_eq h n)
-
-spent_is : (L : Layout) (v : PassView) → is_spent L v ≡ true → (v.held ≡ []) × ((h : ℕ) → h < chunks L → IsIn v.taken h)
-spent_is L v e =
-    let parts = both_true (is_empty v.held) (has_below v.taken (chunks L)) e in
-    (empty_is v.held parts.0, below_is v.taken (chunks L) parts.1)
-
 -- what holds of every pass
 pub sound : (names : List ℕ) (L : Layout) (v : PassView) → IsShape L → IsViewOf L v → IsSoundPass (record { names = names; layout = L; view = v })
 sound names L v shape p =
