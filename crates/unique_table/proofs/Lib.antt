@@ -8,5 +8,6 @@ pub mod Exploring
 pub mod Stocked
 pub mod Probing
 pub mod Paths
+pub mod Tables
 pub mod Passes
 pub mod Splits

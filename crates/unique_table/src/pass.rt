@@ -1,6 +1,7 @@
 ghost use Rattle.std.specs.Prelude.{◌≡◌, length, Some};
 ghost use Rattle.record_store.specs.Interns.{Interns};
 ghost use Rattle.record_store.specs.StoreView.{find_in, IsKnown};
+ghost use Rattle.table_rule.specs.Stores.{AreOfOneTable};
 ghost use Rattle.table_rule.specs.Views.{forked_left, forked_right};
 ghost use Rattle.unique_table.specs.Passes.{pass_view, with_view, IsOneTable, IsSoundPass, HasMet};
 
@@ -79,7 +80,7 @@ impl<'t> SharedPass<'t> {
 
     /// Takes in another pass of the table, whose unused cells are given up.
     pub fn meet(&mut self, other: SharedPass<'t>)
-        requires table { IsOneTable self.old other }
+        requires table { AreOfOneTable (pass_view self.old) (pass_view other) }
         ensures met { HasMet self.old other.entry self.new }
         ensures sound { IsSoundPass self.new }
     {

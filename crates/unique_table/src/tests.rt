@@ -1,3 +1,5 @@
+#![tactic(auto, using(crate::proofs::Tables::one_table))]
+
 ghost use Rattle.std.specs.Prelude.{◌≡◌, ◌<◌, IfSome};
 ghost use Rattle.std.specs.List.{All};
 ghost use denote.Param.Send.{IsSync};

@@ -24,7 +24,7 @@ loop-distance-preserved c =
       explored = explored_on c.args.place.now.me.0 v w i.explored came.0;
       drafted = came.2;
       count = i.count;
-      here = next_on_path c.args.body.now L.buckets c.loop-distance.distance c.loop-distance.bucket shape.power i.here ∙ ap (bit_and (c.loop-distance.bucket + 1)) mask;
+      here = next_on_path c.args.body.now L.buckets c.loop-distance.distance c.loop-distance.bucket shape.buckets.0 i.here ∙ ap (bit_and (c.loop-distance.bucket + 1)) mask;
       passed = passed_next v w c.args.body.now L.buckets c.loop-distance.distance c.loop-distance.bucket came.0 i.passed i.here came.1;
     }
 
