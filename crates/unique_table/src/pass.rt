@@ -9,7 +9,7 @@ use crate::probe::find_or_add;
 use crate::step::{Forks, Meets, Place};
 use crate::stock::Stock;
 use crate::table::SharedTable;
-use crate::walk::{look_chunk, read_word};
+use crate::walk::{first_word, look_chunk, read_word};
 use record_store::{Store, StoreFull};
 use std::marker::Model;
 
@@ -49,9 +49,10 @@ impl<'t> Store for SharedPass<'t> {
         ensures unchanged { pass_view self.new ≡ pass_view self.old }
         ensures table { IsOneTable self.old self.new }
     {
+        let first = first_word(self.table, &self.place, id);
         let mut body = [0; 8];
         for i in 0..8 {
-            body[i] = read_word(self.table, &mut self.place, id, i);
+            body[i] = read_word(self.table, &mut self.place, id, first, i);
         }
         body
     }
