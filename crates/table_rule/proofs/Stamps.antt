@@ -2,7 +2,7 @@
 use Rattle.std.proofs.Common.{◌≡◌, ℕ, suc, ◌+◌, List, [], ◌∷◌, ◌++◌, length, cond, take, drop, refl, sym, ap, ◌∙◌, arith}
 use Rattle.std.specs.Prelude.{slice_index}
 use Rattle.table_rule.specs.PassStore.{stamp_of}
-use Rattle.table_rule.specs.Stamps.{table_part, pass_part, token_count, gone_count, joined_count, forked_mark, tokens_in}
+use Rattle.table_rule.specs.Stamps.{table_part, pass_part, last_of, token_count, gone_count, joined_count, forked_mark, tokens_in}
 use Rattle.table_rule.specs.declared.layout.Layout.{Layout}
 use Rattle.table_rule.specs.declared.view.PassView.{PassView}
 
@@ -18,9 +18,9 @@ take_whole : (xs ys : List ℕ) → take (length xs) (xs ++ ys) ≡ xs
 take_whole [] ys = refl
 take_whole (x ∷ xs) ys = ap (λ (zs : List ℕ). x ∷ zs) (take_whole xs ys)
 
-drop_whole : (xs : List ℕ) (y : ℕ) (ys : List ℕ) → drop (length xs) (xs ++ y ∷ ys) ≡ y ∷ ys
-drop_whole [] y ys = refl
-drop_whole (x ∷ xs) y ys = drop_whole xs y ys
+last_is : (xs : List ℕ) (y : ℕ) → slice_index (xs ++ y ∷ []) (length xs) ≡ y
+last_is [] y = refl
+last_is (x ∷ xs) y = last_is xs y
 
 -- the names in what a stamp tells of its table
 pub names_in : List ℕ → List ℕ
@@ -50,9 +50,8 @@ module _ (names : List ℕ) (L : Layout) (v : PassView) where
   pass_part_is = ap (λ (n : ℕ). drop n (stamp_of names L v)) longer ∙ drop_through names L.tokens behind
 
   pub token_count_is : token_count (stamp_of names L v) ≡ L.tokens
-  unfolding behind
   token_count_is =
-      ap (λ (n : ℕ). slice_index (drop n (stamp_of names L v)) 0) more ∙ ap (λ (xs : List ℕ). slice_index xs 0) (drop_whole names L.tokens behind)
+      ap last_of table_part_is ∙ ap (λ (n : ℕ). slice_index (length names ∷ names ++ L.tokens ∷ []) n) more ∙ last_is names L.tokens
 
   pub gone_count_is : gone_count (stamp_of names L v) ≡ length v.gone
   gone_count_is = ap (λ (xs : List ℕ). slice_index xs 0) pass_part_is
@@ -71,10 +70,4 @@ pub same_table : (m n : List ℕ) (L M : Layout) (v u : PassView) → table_part
 same_table m n L M v u e = sym (names_read n M u) ∙ ap names_in e ∙ names_read m L v
 
 pub same_tokens : (m n : List ℕ) (L M : Layout) (v u : PassView) → table_part (stamp_of n M u) ≡ table_part (stamp_of m L v) → M.tokens ≡ L.tokens
-same_tokens m n L M v u e =
-    let names : length n ≡ length m = ap (λ (xs : List ℕ). length xs) (same_table m n L M v u e) in
-    let at : (names : List ℕ) (y : ℕ) → slice_index (drop (suc (length names)) (length names ∷ names ++ y ∷ [])) 0 ≡ y = λ names y. ap (λ (xs : List ℕ). slice_index xs 0) (drop_whole names y []) in
-    sym (at n M.tokens)
-    ∙ ap (λ (k : ℕ). slice_index (drop (suc k) (length n ∷ n ++ M.tokens ∷ [])) 0) names
-    ∙ ap (λ (xs : List ℕ). slice_index (drop (suc (length m)) xs) 0) (sym (table_part_is n M u) ∙ e ∙ table_part_is m L v)
-    ∙ at m L.tokens
+same_tokens m n L M v u e = sym (token_count_is n M u) ∙ ap last_of e ∙ token_count_is m L v

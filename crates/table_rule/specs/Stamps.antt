@@ -14,9 +14,12 @@ table_part stamp = take (table_length stamp) stamp
 abbrev pub pass_part : List ℕ → List ℕ
 pass_part stamp = drop (table_length stamp) stamp
 
--- how many tokens the table has
+-- how many tokens the table has, the last of the numbers that tell of it
+abbrev pub last_of : List ℕ → ℕ
+last_of part = slice_index part (1 + slice_index part 0)
+
 abbrev pub token_count : List ℕ → ℕ
-token_count stamp = slice_index (drop (1 + slice_index stamp 0) stamp) 0
+token_count stamp = last_of (table_part stamp)
 
 abbrev pub gone_count : List ℕ → ℕ
 gone_count stamp = slice_index (pass_part stamp) 0

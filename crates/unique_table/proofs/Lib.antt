@@ -11,3 +11,4 @@ pub mod Paths
 pub mod Tables
 pub mod Passes
 pub mod Splits
+pub mod Examples
