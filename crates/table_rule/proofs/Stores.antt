@@ -1,13 +1,12 @@
 -- Passes as stores: one pass, and two that met.
-use Rattle.std.proofs.Common.{◌≡◌, ◌⊎◌, ℕ, zero, suc, ◌+◌, ◌-◌, ◌*◌, ◌<◌, ◌≤◌, List, [], ◌∷◌, ◌++◌, length, length-append, cond, Some, Bool, true, false, ◌||◌, refl, sym, ap, subst, ◌∙◌, inl, inr, ⊎_elim, arith}
+use Rattle.std.proofs.Common.{◌≡◌, ◌⊎◌, ℕ, ◌+◌, ◌-◌, ◌*◌, ◌<◌, ◌≤◌, List, [], ◌∷◌, ◌++◌, length, length-append, cond, Bool, true, false, ◌||◌, refl, sym, ap, subst, ◌∙◌, inl, inr, ⊎_elim, arith}
 use Rattle.std.specs.Prelude.{IsTrue}
-use Rattle.record_store.specs.StoreView.{find_in}
 use Rattle.table_rule.specs.Counts.{IsIn}
 use Rattle.table_rule.specs.Laws.{IsViewOf, IsWhole, IsAccounted}
 use Rattle.table_rule.specs.PassStore.{pass_store, stamp_of, is_spent}
-use Rattle.table_rule.specs.Stamps.{forked_mark, gone_count, joined_count}
+use Rattle.table_rule.specs.Stamps.{joined_count}
 use Rattle.table_rule.specs.Stores.{IsWholeStore, IsSoundStore, HasJoined, PassesAreSound, PassesJoin}
-use Rattle.table_rule.specs.Words.{IsLayout, chunks, chunk_of}
+use Rattle.table_rule.specs.Words.{IsLayout, chunk_of}
 use Rattle.table_rule.specs.declared.layout.Layout.{Layout}
 use Rattle.table_rule.specs.declared.view.PassView.{PassView}
 use Rattle.table_rule.proofs.Joining.{neither}

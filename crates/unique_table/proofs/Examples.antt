@@ -1,5 +1,5 @@
 -- The table of the examples: its layout, what a pass owns there, and how an id comes to be known.
-use Rattle.std.proofs.Common.{◌≡◌, ℕ, List, [], ◌∷◌, refl, inl, inr, arith}
+use Rattle.std.proofs.Common.{[], ◌∷◌, refl, inr, arith}
 use Rattle.table_rule.specs.Views.{fresh, know, publish}
 use Rattle.unique_table.specs.Examples.{layout, drafting}
 use Rattle.unique_table.specs.Exploring.{HasLearned}

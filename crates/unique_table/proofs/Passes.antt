@@ -1,9 +1,7 @@
 -- A pass as a store: what a call of `intern` does to it, and what its ids stand for.
-use Rattle.std.proofs.lemmas.Bool.Decides.{Decides-ltb}
-use Rattle.std.proofs.lemmas.Bool.{cases_eq}
-use Rattle.std.proofs.Common.{◌≡◌, ℕ, zero, suc, ◌*◌, ◌<◌, List, [], ◌∷◌, ◌++◌, length, cond, Some, false, Ok, Err, Result, refl, sym, ap, subst, ◌∙◌, inl, inr, ⊎_elim, arith, ◌≢◌, Bool, true, true≢false, ◌&&◌}
+use Rattle.std.proofs.Common.{◌≡◌, ℕ, zero, suc, ◌<◌, List, [], ◌∷◌, ◌++◌, length, cond, false, Ok, Err, Result, refl, sym, ap, subst, ◌∙◌, inr, ⊎_elim, arith}
 use Rattle.std.specs.FinMap.{from_entries}
-use Rattle.std.specs.Prelude.{slice_index, nat_lt}
+use Rattle.std.specs.Prelude.{slice_index}
 use Rattle.record_store.specs.Interns.{Interns}
 use Rattle.record_store.specs.declared.store.StoreFull.{StoreFull}
 use Rattle.table_rule.specs.Counts.{IsIn}

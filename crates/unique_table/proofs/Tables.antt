@@ -1,11 +1,10 @@
 -- Passes of one table, by what their views as stores tell.
-use Rattle.std.proofs.Common.{◌≡◌, ℕ, zero, suc, ◌+◌, ◌*◌, ◌/◌, ◌<◌, ◌≤◌, ◌^◌, max, List, [], ◌∷◌, ◌++◌, length, sym, ap, subst, ◌∙◌, ⊎_elim, arith}
+use Rattle.std.proofs.Common.{◌≡◌, ℕ, suc, ◌+◌, ◌*◌, ◌/◌, ◌<◌, ◌≤◌, ◌^◌, List, [], ◌∷◌, ◌++◌, length, sym, ap, subst, ◌∙◌, ⊎_elim, arith}
 use Rattle.std.proofs.Math.Nat.{pow-le-pow_right, two-pow-succ}
 use Rattle.std.proofs.lemmas.Bool.{cases_lt}
 use Rattle.std.specs.Int.{IsNextPowerOfTwo}
 use Rattle.table_rule.specs.Stores.{AreOfOneTable}
 use Rattle.table_rule.specs.declared.layout.Layout.{Layout}
-use Rattle.table_rule.specs.declared.view.PassView.{PassView}
 use Rattle.table_rule.proofs.Stamps.{table_part_is, same_table, same_tokens}
 use Rattle.unique_table.specs.Passes.{pass_view, IsOneTable}
 use Rattle.unique_table.specs.Values.{IsShape}

@@ -1,5 +1,5 @@
 -- A table of 512 cells for two passes, worked.
-use Rattle.std.specs.Prelude.{◌≡◌, ℕ, List, [], ◌∷◌, refl}
+use Rattle.std.specs.Prelude.{◌≡◌, [], ◌∷◌, refl}
 use Rattle.atomic_table.specs.Seated.{TableId}
 use Rattle.table_rule.specs.Views.{fresh, take_chunk}
 use Rattle.table_rule.specs.declared.layout.Layout.{Layout}

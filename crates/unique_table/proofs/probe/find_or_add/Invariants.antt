@@ -1,4 +1,4 @@
-use Rattle.std.proofs.Common.{◌≡◌, ℕ, ◌<◌, true}
+use Rattle.std.proofs.Common.{◌≡◌, true}
 use Rattle.record_store.specs.Path.{path_bucket}
 use Rattle.table_rule.specs.Laws.{IsViewOf}
 use Rattle.table_rule.specs.Steps.{HasPassed}

@@ -1,4 +1,4 @@
-use Rattle.std.proofs.Common.{◌<◌, ℕ, ◌-◌, arith}
+use Rattle.std.proofs.Common.{arith}
 use Rattle.unique_table.proofs.Reading.{met_within}
 use Rattle.unique_table.proofs.walk.first_word.Goals as goal
 

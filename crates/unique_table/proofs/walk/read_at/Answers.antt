@@ -1,4 +1,4 @@
-use Rattle.std.proofs.Common.{◌≡◌, ℕ, ◌+◌, ◌-◌, ◌*◌, arith, ap, sym, subst, ◌∙◌}
+use Rattle.std.proofs.Common.{◌≡◌, ℕ, ◌+◌, ◌-◌, arith, ap, sym, subst, ◌∙◌}
 use Rattle.table_rule.specs.Words.{word_at}
 use Rattle.table_rule.specs.declared.layout.Layout.{Layout}
 use Rattle.unique_table.specs.Taking.{CanTake}

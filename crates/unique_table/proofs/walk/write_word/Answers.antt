@@ -1,4 +1,4 @@
-use Rattle.std.proofs.Common.{◌≡◌, ℕ, ◌+◌, ◌-◌, ◌*◌, rules, arith, ap, sym, subst, ◌∙◌}
+use Rattle.std.proofs.Common.{◌≡◌, ℕ, ◌+◌, ◌-◌, rules, arith, ap, sym, subst, ◌∙◌}
 use Rattle.table_rule.specs.Steps.{store_word, draft_cell}
 use Rattle.table_rule.specs.Words.{word_at}
 use Rattle.table_rule.specs.declared.layout.Layout.{Layout}

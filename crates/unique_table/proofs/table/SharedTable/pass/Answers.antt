@@ -1,4 +1,4 @@
-use Rattle.std.proofs.Common.{◌≡◌, ℕ, None, sym, subst, []}
+use Rattle.std.proofs.Common.{◌≡◌, None, sym, subst, []}
 use Rattle.std.specs.Cmp.{nat_cmp_total}
 use Rattle.std.specs.FinMap.{get-from_entries}
 use Rattle.record_store.specs.StoreView.{find_in}
