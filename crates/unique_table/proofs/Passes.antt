@@ -1,5 +1,6 @@
 -- A pass as a store: what a call of `intern` does to it, and what its ids stand for.
-use Rattle.std.proofs.Common.{◌≡◌, ℕ, zero, suc, ◌<◌, List, [], ◌∷◌, ◌++◌, length, cond, false, Ok, Err, Result, refl, sym, ap, subst, ◌∙◌, inr, ⊎_elim, arith}
+use Rattle.std.proofs.Common.{◌≡◌, ℕ, zero, suc, ◌<◌, List, [], ◌∷◌, ◌++◌, length, cond, false, Ok, Err, Result, refl, sym, ap, subst, ◌∙◌, inl, inr, ⊎_elim, arith}
+use Rattle.std.proofs.lemmas.Option.{none-some}
 use Rattle.std.specs.FinMap.{from_entries}
 use Rattle.std.specs.Prelude.{slice_index}
 use Rattle.record_store.specs.Interns.{Interns}
@@ -13,14 +14,15 @@ use Rattle.table_rule.specs.Words.{IsLayout}
 use Rattle.table_rule.specs.declared.layout.Layout.{Layout}
 use Rattle.table_rule.specs.declared.view.PassView.{PassView}
 use Rattle.table_rule.proofs.Lists.{in_left, in_right}
-use Rattle.table_rule.proofs.PassStore.{interns_known, interns_made, interns_full, spends, spent_is}
+use Rattle.table_rule.proofs.PassStore.{in_known, interns_known, interns_made, interns_full, spends, spent_is}
+use Rattle.table_rule.proofs.Stamps.{gone_count_is}
 use Rattle.table_rule.proofs.Stores.{HasTakenIn, sound_store, joined_stores}
 use Rattle.table_rule.proofs.Passes.{knows_once, whole_owns_all, known_placed}
 use Rattle.table_rule.proofs.WordLaws.{same_eight, eight_of}
 use Rattle.unique_table.specs.Exploring.{HasOnlyRead}
 use Rattle.unique_table.specs.Passes.{IsSoundPass, HasMet}
 use Rattle.unique_table.specs.Probing.{Ends}
-use Rattle.unique_table.specs.Stocked.{IsStock}
+use Rattle.unique_table.specs.Stocked.{IsStock, StartsEmpty}
 use Rattle.unique_table.specs.Values.{IsShape}
 use Rattle.unique_table.specs.declared.stock.Stock.{Stock}
 
@@ -58,14 +60,19 @@ module _ (names : List ℕ) (L : Layout) where
       let node_long : length node ≡ 8 = ap (λ (n : List ℕ). length n) (sym is) in
       sym (eight_of node node_long) ∙ same_eight (slice_index node) (slice_index words) (λ j few. sym (same j few)) ∙ eight_of words long
 
+knows_none : (es : List (ℕ × List ℕ)) → ((id : ℕ) (node : List ℕ) → IsIn es (id, node) → ⊥) → es ≡ []
+knows_none [] none = refl
+knows_none (e ∷ es) none = absurd (none e.0 e.1 (inl refl))
+
 -- what holds of every pass
-pub sound : (names : List ℕ) (L : Layout) (v : PassView) → IsShape L → IsViewOf L v → v.ended ≡ false → IsSoundPass (record { names = names; layout = L; view = v })
-sound names L v shape p live =
+pub sound : (names : List ℕ) (L : Layout) (v : PassView) → IsShape L → IsViewOf L v → v.ended ≡ false → StartsEmpty v → IsSoundPass (record { names = names; layout = L; view = v })
+sound names L v shape p live empty =
     let few = p.ruled.few p.pass v p.stands in
     let size = shape.chunk in
     record {
       live = live;
       store = subst (λ (n : ℕ). IsSoundStore n (pass_store names L v)) size (sound_store names L v shape.layout p live);
+      empty = λ none. let e = empty (knows_none v.known (λ id node there. absurd (none-some node (sym (none id) ∙ in_known names L v (knows_once L v shape.layout p) id node there)))) in (e.0, gone_count_is names L v ∙ ap (λ (xs : List ℕ). length xs) e.1);
       held = omega (arith, few.0);
       spent = (λ e. spent_is L v e, λ all. spends L v all.0 all.1);
       whole = whole_owns_all L v shape.layout p;
@@ -113,3 +120,16 @@ module _ (names : List ℕ) (L : Layout) (v u w : PassView) (h n : ℕ) (is : w 
 
   pub live_met : w.ended ≡ false
   live_met = ap (λ (x : PassView). x.ended) is ∙ (see_chunk_same h n (joined_view v u)).7
+
+no_left : (xs ys : List (ℕ × List ℕ)) → xs ++ ys ≡ [] → (xs ≡ []) × (ys ≡ [])
+no_left [] ys e = (refl, e)
+no_left (x ∷ xs) ys e = absurd (omega (arith, ap (λ (zs : List (ℕ × List ℕ)). length zs) e))
+
+-- what a pass owns that knows nothing, after it took in another
+pub empty_met : (names : List ℕ) (L : Layout) (v u w : PassView) (h n : ℕ) → w ≡ see_chunk h n (joined_view v u) → StartsEmpty v → StartsEmpty u → StartsEmpty w
+empty_met names L v u w h n is a b none =
+    let t = took_in names L v u w h n is in
+    let both = no_left v.known u.known (sym t.known ∙ none) in
+    let x = a both.0 in
+    let y = b both.1 in
+    (t.held ∙ x.0, t.gone ∙ (λ i. x.1 i ++ y.0 i ++ y.1 i))

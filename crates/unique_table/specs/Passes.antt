@@ -1,9 +1,10 @@
 -- Passes as stores, and what they are to each other.
-use Rattle.std.specs.Prelude.{◌≡◌, ◌⊎◌, ◌↔◌, ℕ, ◌<◌, ◌≤◌, ◌++◌, length, [], IsTrue, false}
-use Rattle.record_store.specs.StoreView.{StoreView}
+use Rattle.std.specs.Prelude.{◌≡◌, ◌⊎◌, ◌↔◌, ℕ, ◌<◌, ◌≤◌, ◌++◌, length, [], IsTrue, None, false}
+use Rattle.record_store.specs.StoreView.{StoreView, find_in}
 use Rattle.table_rule.specs.Counts.{IsIn}
 use Rattle.table_rule.specs.Laws.{IsWhole, OwnsAll}
 use Rattle.table_rule.specs.PassStore.{pass_store}
+use Rattle.table_rule.specs.Stamps.{gone_count}
 use Rattle.table_rule.specs.Stores.{IsSoundStore, HasJoined}
 use Rattle.table_rule.specs.Words.{chunks}
 use Rattle.table_rule.specs.declared.view.PassView.{PassView}
@@ -25,6 +26,8 @@ IsOneTable p q = (q.names ≡ p.names) × (q.layout ≡ p.layout)
 pub record IsSoundPass (p : PassValue) : Type 0 where
   pub live : p.view.ended ≡ false
   pub store : IsSoundStore CHUNK (pass_view p)
+  -- one that knows nothing owns no cell, and none was given up to it
+  pub empty : ((id : ℕ) → find_in (pass_view p) id ≡ None) → (p.view.held ≡ []) × (gone_count (pass_view p).stamp ≡ 0)
   -- the cells that it owns are few
   pub held : length p.view.held ≤ CHUNK
   -- it is spent exactly where it owns no cell and has seen every chunk taken

@@ -9,7 +9,7 @@ use Rattle.unique_table.specs.Values.{IsShape}
 use Rattle.unique_table.proofs.Tables.{one_layout}
 use Rattle.unique_table.specs.declared.table.TableValue.{TableValue}
 use Rattle.unique_table.specs.declared.token.PassValue.{PassValue}
-use Rattle.unique_table.proofs.Passes.{meets, sound, live_met}
+use Rattle.unique_table.proofs.Passes.{meets, sound, live_met, empty_met}
 use Rattle.unique_table.proofs.Possible.{joins_seats}
 use Rattle.unique_table.proofs.Splits.{pass_met}
 use Rattle.unique_table.proofs.Values.{same_names}
@@ -44,7 +44,7 @@ invariant_of-self c =
     let e = c.look_chunk.ensures in
     let joined = ap (λ (m : PassView × List (ℕ × Unit {0})). m.0) c.join_seat.ensures.2 in
     let is = e.view ∙ ap (see_chunk 0 c.look_chunk.result) joined in
-    pass_met c.self.inside.table.now c.self.inside.place c.self.inside.stock c.self.invariant u c.look_chunk.new.place c.look_chunk.result e.own.0 e.own.1 e.possible is
+    pass_met c.self.inside.table.now c.self.inside.place c.self.inside.stock c.self.invariant u c.look_chunk.new.place c.look_chunk.result c.other.invariant.empty e.own.0 e.own.1 e.possible is
 
 pub returns : goal.returns
 returns c =
@@ -67,5 +67,5 @@ returns c =
     let of_other : HasMet old c.args.other new = subst (λ (q : PassValue). HasMet old q new) c.other.view_is of_table in
     record {
       met = subst (λ (p : PassValue). HasMet p c.args.other new) c.self.view_is of_other;
-      sound = sound t.names t.layout w c.self.invariant.shape e.possible (live_met t.names t.layout v u w 0 c.look_chunk.result is);
+      sound = sound t.names t.layout w c.self.invariant.shape e.possible (live_met t.names t.layout v u w 0 c.look_chunk.result is) (empty_met t.names t.layout v u w 0 c.look_chunk.result is c.self.invariant.empty c.other.invariant.empty);
     }
