@@ -1,13 +1,17 @@
 -- The steps of the example are allowed: they are a run, and the rule holds after it.
-use Rattle.std.proofs.Common.{ℕ, List, [], ◌∷◌, refl, arith}
-use Rattle.record_store.specs.Path.{mixed, lower_node}
-use Rattle.table_rule.specs.Examples.{small, made, dealt, owned, store_all, published}
-use Rattle.table_rule.specs.Laws.{blank, IsRuled, IsRun}
-use Rattle.table_rule.specs.Steps.{State, Event, exchange_bucket, store_word, exchange_chunk, deal, IsStep, IsCovered}
+use Rattle.std.proofs.Common.{◌≡◌, ◌≢◌, ℕ, List, [], ◌∷◌, true, refl, sym, ap, inl, inr, ⊎_elim, arith}
+use Rattle.std.proofs.lemmas.Bool.{cases_eq}
+use Rattle.record_store.specs.Path.{mixed, path_bucket, lower_node}
+use Rattle.table_rule.specs.Examples.{small, made, dealt, owned, store_all, published, knower, gathered, met}
+use Rattle.table_rule.specs.Laws.{blank, IsRuled, IsRun, IsViewOf}
+use Rattle.table_rule.specs.PassStore.{pass_store}
+use Rattle.table_rule.specs.Steps.{State, Event, exchange_bucket, store_word, exchange_chunk, deal, join, IsStep, IsCovered}
+use Rattle.table_rule.specs.Stores.{IsSoundStore, IsWholeStore, HasJoined}
 use Rattle.table_rule.specs.Views.{fresh}
 use Rattle.table_rule.specs.Words.{IsLayout}
 use Rattle.table_rule.specs.declared.view.PassView.{PassView}
-use Rattle.table_rule.proofs.Steps.{always}
+use Rattle.table_rule.proofs.Steps.{keeps, always}
+use Rattle.table_rule.proofs.Stores.{passes_are_sound, passes_join}
 
 is_layout : IsLayout small
 is_layout = record { some_cells = omega arith; more_buckets = omega arith; some_chunk = omega arith; whole_chunks = refl; some_tokens = omega arith }
@@ -65,3 +69,45 @@ run = (dealt, deals, (owned, takes, (writing (2 ∷ []), writes_0, (writing (2 �
 
 ruled : IsRuled small published
 ruled = always small steps published is_layout run
+
+-- it meets the second pass
+joins : IsStep small 0 (join 1) published met
+joins = record { view = knower; stands = refl; live = refl; allowed = ((λ e. absurd (omega arith)), fresh (0 ∷ []), refl, refl); words = refl; views = refl }
+
+met_ruled : IsRuled small met
+met_ruled = keeps small 0 (join 1) published met is_layout ruled joins
+
+-- the views of both before, and of the first after
+mine : IsViewOf small knower
+mine = record { words = published.words; views = published.views; pass = 0; stands = refl; ruled = ruled }
+
+theirs : IsViewOf small (fresh (0 ∷ []))
+theirs = record { words = published.words; views = published.views; pass = 1; stands = refl; ruled = ruled }
+
+after_both : IsViewOf small gathered
+after_both = record { words = met.words; views = met.views; pass = 0; stands = refl; ruled = met_ruled }
+
+-- as a store it is joined, sound, whole and spent, and has published the one cell
+stores_join : HasJoined 1 (pass_store (7 ∷ 9 ∷ []) small knower) (pass_store (7 ∷ 9 ∷ []) small (fresh (0 ∷ []))) (pass_store (7 ∷ 9 ∷ []) small gathered)
+stores_join = passes_join (7 ∷ 9 ∷ []) small knower (fresh (0 ∷ [])) is_layout mine theirs after_both
+
+store_is_sound : IsSoundStore 1 (pass_store (7 ∷ 9 ∷ []) small gathered)
+store_is_sound = passes_are_sound (7 ∷ 9 ∷ []) small gathered is_layout after_both refl
+
+store_is_whole : IsWholeStore (pass_store (7 ∷ 9 ∷ []) small gathered)
+store_is_whole = record {
+  unforked = refl;
+  tokens = λ t few. ⊎_elim (λ (last : t ≡ 1). inl (sym last)) (λ (first : t ≢ 1). inr (inl (let e : 0 ≡ t = omega arith in e))) (cases_eq t 1);
+}
+
+store_is_spent : (pass_store (7 ∷ 9 ∷ []) small gathered).spent ≡ true
+store_is_spent = refl
+
+-- the draft may not be published in the second bucket of its path before the first was seen with another body
+too_far : IsCovered small (drafting lower_node) lower_node 1 → ⊥
+unfolding mixed
+too_far c =
+    ⊎_elim
+    (λ (none : c.distance ≡ 0). absurd (omega (arith, ap (λ (d : ℕ). path_bucket lower_node 2 d) none, c.here)))
+    (λ (some : c.distance ≢ 0). absurd ((c.passed 0 (omega arith)).3))
+    (cases_eq c.distance 0)

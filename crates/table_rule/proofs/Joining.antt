@@ -13,7 +13,7 @@ use Rattle.table_rule.proofs.Lists.{times-append, each-append, each_weaker, in_l
 use Rattle.table_rule.proofs.ViewLaws.{each_set}
 
 -- what holds of neither
-neither : (a b : Bool) → (a || b) ≡ false → (a ≡ false) × (b ≡ false)
+pub neither : (a b : Bool) → (a || b) ≡ false → (a ≡ false) × (b ≡ false)
 neither true b e = absurd (true≢false e)
 neither false b e = (refl, e)
 

@@ -10,4 +10,7 @@ pub mod Joining
 pub mod Steps
 pub mod Passes
 pub mod PassStore
+pub mod Stamps
+pub mod Published
+pub mod Stores
 pub mod Example

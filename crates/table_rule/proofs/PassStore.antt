@@ -1,5 +1,5 @@
 -- What a call of `intern` does to a pass as a store.
-use Rattle.std.proofs.Common.{◌≡◌, ◌≢◌, ℕ, zero, suc, ◌<◌, ◌≤◌, List, [], ◌∷◌, ◌++◌, length, cond, Some, Ok, Err, true, is_eq, refl, sym, ap, subst, ◌∙◌, inl, inr, ⊎_elim, arith}
+use Rattle.std.proofs.Common.{◌≡◌, ◌≢◌, ℕ, zero, suc, ◌<◌, ◌≤◌, List, [], ◌∷◌, ◌++◌, length, cond, Some, Ok, Err, true, false, Bool, ◌&&◌, true≢false, is_eq, refl, sym, ap, subst, ◌∙◌, inl, inr, ⊎_elim, arith}
 use Rattle.std.proofs.lemmas.Bool.{cases_eq, cases_lt, cond-true, cond-false, false≢true}
 use Rattle.std.proofs.lemmas.Bool.Decides.{Decides-ltb}
 use Rattle.std.proofs.lemmas.Option.{none-some, same_Some}
@@ -12,11 +12,11 @@ use Rattle.record_store.specs.Interns.{Interns}
 use Rattle.record_store.specs.StoreView.{find_in}
 use Rattle.table_rule.specs.Counts.{IsIn, times}
 use Rattle.table_rule.specs.Laws.{KnowsOnce}
-use Rattle.table_rule.specs.PassStore.{pass_store, stamp_of, is_spent, has_below}
+use Rattle.table_rule.specs.PassStore.{pass_store, stamp_of, is_spent, is_empty, has_below}
 use Rattle.table_rule.specs.Words.{chunks}
 use Rattle.table_rule.specs.declared.layout.Layout.{Layout}
 use Rattle.table_rule.specs.declared.view.PassView.{PassView}
-use Rattle.table_rule.proofs.Lists.{in_left, in_right, in_append, times_is_in}
+use Rattle.table_rule.proofs.Lists.{in_left, in_right, in_append, times_is_in, is_in_times}
 
 find_here : (id other : ℕ) (node : List ℕ) (es : List (ℕ × List ℕ)) → id ≡ other → find nat_cmp id ((other, node) ∷ es) ≡ Some node
 find_here id other node es same = cond-true (eq_by_cmp nat_cmp id other) (Some node) (find nat_cmp id es) (ap is_eq (sym (nat_cmp_is id other Equal same)))
@@ -60,7 +60,7 @@ module _ (names : List ℕ) (L : Layout) where
 
   stamp_same : (v w : PassView) → w.gone ≡ v.gone → w.tokens ≡ v.tokens → w.joined ≡ v.joined → w.forked ≡ v.forked → stamp_of names L w ≡ stamp_of names L v
   stamp_same v w gone tokens joined forked =
-      λ i. names ++ L.tokens ∷ length (gone i) ∷ joined i ∷ cond (forked i) 1 0 ∷ tokens i
+      λ i. length names ∷ names ++ L.tokens ∷ length (gone i) ∷ joined i ∷ cond (forked i) 1 0 ∷ tokens i
 
   -- what is known once after an id was added was known once before
   knew : (v w : PassView) (id : ℕ) (node : List ℕ) → KnowsOnce L w → w.known ≡ v.known ++ (id, node) ∷ [] → KnowsOnce L v
@@ -139,3 +139,25 @@ has_each xs (suc n) all =
 
 pub spends : (L : Layout) (v : PassView) → v.held ≡ [] → ((h : ℕ) → h < chunks L → IsIn v.taken h) → is_spent L v ≡ true
 spends L v none all = rw none (has_each v.taken (chunks L) all)
+
+both_true : (a b : Bool) → (a && b) ≡ true → (a ≡ true) × (b ≡ true)
+both_true true b e = (refl, e)
+both_true false b e = absurd (true≢false (sym e))
+
+empty_is : (xs : List ℕ) → is_empty xs ≡ true → xs ≡ []
+empty_is [] e = refl
+empty_is (x ∷ xs) e = absurd (true≢false (sym e))
+
+below_is : (xs : List ℕ) (n : ℕ) → has_below xs n ≡ true → (h : ℕ) → h < n → IsIn xs h
+below_is xs zero e h few = absurd (omega arith)
+below_is xs (suc n) e h few =
+    let parts = both_true (nat_lt 0 (times n xs)) (has_below xs n) e in
+    ⊎_elim
+    (λ (last : h ≡ n). subst (IsIn xs) (sym last) (is_in_times n xs ((Decides-ltb 0 (times n xs)).0 parts.0)))
+    (λ (before : h ≢ n). below_is xs n parts.1 h (omega arith))
+    (cases_eq h n)
+
+pub spent_is : (L : Layout) (v : PassView) → is_spent L v ≡ true → (v.held ≡ []) × ((h : ℕ) → h < chunks L → IsIn v.taken h)
+spent_is L v e =
+    let parts = both_true (is_empty v.held) (has_below v.taken (chunks L)) e in
+    (empty_is v.held parts.0, below_is v.taken (chunks L) parts.1)

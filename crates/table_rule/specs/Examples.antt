@@ -97,8 +97,14 @@ forked_is : after published 0 fork ≡ record { words = published.words; views =
 forked_is = refl
 
 -- a pass that takes another in has the tokens of both
-joined_is : after published 0 (join 1) ≡ record { words = published.words; views = record knower { tokens = 1 ∷ 0 ∷ []; joined = 1 } ∷ ended_view ∷ [] }
-joined_is = refl
+abbrev pub met : State
+met = after published 0 (join 1)
+
+abbrev pub gathered : PassView
+gathered = record knower { tokens = 1 ∷ 0 ∷ []; joined = 1 }
+
+met_is : met ≡ record { words = published.words; views = gathered ∷ ended_view ∷ [] }
+met_is = refl
 
 -- the cells of the other that were not published are given up
 given_up_is : (view_of (views_after small owned 1 (fresh (0 ∷ [])) (join 0)) 1).gone ≡ 0 ∷ []
@@ -111,5 +117,5 @@ spent_is = refl
 not_spent_is : is_spent small (fresh (0 ∷ [])) ≡ false
 not_spent_is = refl
 
-stamp_is : stamp_of (7 ∷ 9 ∷ []) small (record knower { gone = 3 ∷ 4 ∷ []; joined = 1; forked = true }) ≡ 7 ∷ 9 ∷ 2 ∷ 2 ∷ 1 ∷ 1 ∷ 1 ∷ []
+stamp_is : stamp_of (7 ∷ 9 ∷ []) small (record knower { gone = 3 ∷ 4 ∷ []; joined = 1; forked = true }) ≡ 2 ∷ 7 ∷ 9 ∷ 2 ∷ 2 ∷ 1 ∷ 1 ∷ 1 ∷ []
 stamp_is = refl

@@ -4,5 +4,7 @@ pub mod Views
 pub mod Rule
 pub mod Steps
 pub mod Laws
+pub mod Stamps
 pub mod PassStore
+pub mod Stores
 pub mod Examples

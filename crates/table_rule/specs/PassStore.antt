@@ -20,10 +20,9 @@ has_below xs (suc n) = nat_lt 0 (times n xs) && has_below xs n
 abbrev pub is_spent : Layout → PassView → Bool
 is_spent L v = is_empty v.held && has_below v.taken (chunks L)
 
--- The numbers that name the table, and how many tokens it has; then how many cells were given up to the pass, how many
--- passes have met in it, 1 where it was forked, and its tokens
+-- What tells of the table, and then of the pass
 abbrev pub stamp_of : List ℕ → Layout → PassView → List ℕ
-stamp_of names L v = names ++ L.tokens ∷ length v.gone ∷ v.joined ∷ (if v.forked then 1 else 0) ∷ v.tokens
+stamp_of names L v = length names ∷ names ++ L.tokens ∷ length v.gone ∷ v.joined ∷ (if v.forked then 1 else 0) ∷ v.tokens
 
 abbrev pub pass_store : List ℕ → Layout → PassView → StoreView
 pass_store names L v = record {

@@ -45,11 +45,15 @@ HasRead v id node = (i : ℕ) → i < 8 → IsIn v.words (id, i, slice_index nod
 abbrev pub Differs : PassView → List ℕ → ℕ → Type 0
 Differs v node b = (id : ℕ) × (i : ℕ) × (word : ℕ) × IsIn v.seen (b, id) × IsIn v.words (id, i, word) × (word ≢ slice_index node i)
 
--- the path of the body up to this bucket was seen, and each body there differs
+-- each bucket on the path of the body before this distance was seen, and its body differs
+abbrev pub HasPassed : Layout → PassView → List ℕ → ℕ → Type 0
+HasPassed L v node distance = (d : ℕ) → d < distance → Differs v node (path_bucket node L.buckets d)
+
+-- the path of the body up to this bucket was passed
 pub record IsCovered (L : Layout) (v : PassView) (node : List ℕ) (b : ℕ) : Type 0 where
   pub distance : ℕ
   pub here : path_bucket node L.buckets distance ≡ b
-  pub passed : (d : ℕ) → d < distance → Differs v node (path_bucket node L.buckets d)
+  pub passed : HasPassed L v node distance
 
 -- the cell of the draft
 abbrev pub draft_cell : PassView → ℕ

@@ -1,4 +1,5 @@
 ghost use Rattle.table_rule.specs.Laws.{RuleBegins, StepsKeepTheRule, RuleAlwaysHolds, PassesKnowOnce, PassesMakeOnce, WholeIsAlone, WholePassesOwnAll, BucketsAreLeft};
+ghost use Rattle.table_rule.specs.Stores.{PassesAreSound, PassesJoin};
 
 /// The rule holds of a table that was just made, and each atomic step keeps it. So it holds between any two steps,
 /// whatever the passes are and in whatever order their steps come.
@@ -24,4 +25,10 @@ pub fn whole_pass_laws()
 /// The buckets are never all taken, so a path ends.
 pub fn bucket_laws()
     ensures left { BucketsAreLeft }
+{}
+
+/// A pass is a sound store, and two that meet are one store that knows what both knew.
+pub fn store_laws()
+    ensures sound { PassesAreSound }
+    ensures join { PassesJoin }
 {}

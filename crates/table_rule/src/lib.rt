@@ -11,6 +11,6 @@ mod laws;
 mod layout;
 mod view;
 
-pub use laws::{bucket_laws, pass_laws, rule_laws, whole_pass_laws};
+pub use laws::{bucket_laws, pass_laws, rule_laws, store_laws, whole_pass_laws};
 pub use layout::Layout;
 pub use view::PassView;

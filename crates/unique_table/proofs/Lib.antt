@@ -8,5 +8,7 @@ pub mod Exploring
 pub mod Stocked
 pub mod Probing
 pub mod Paths
+pub mod Tables
 pub mod Passes
 pub mod Splits
+pub mod Examples

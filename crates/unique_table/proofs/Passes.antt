@@ -1,34 +1,35 @@
 -- A pass as a store: what a call of `intern` does to it, and what its ids stand for.
-use Rattle.std.proofs.lemmas.Bool.Decides.{Decides-ltb}
-use Rattle.std.proofs.lemmas.Bool.{cases_eq}
-use Rattle.std.proofs.Common.{◌≡◌, ℕ, zero, suc, ◌*◌, ◌<◌, List, [], ◌∷◌, ◌++◌, length, cond, Some, false, Ok, Err, Result, refl, sym, ap, subst, ◌∙◌, inl, inr, ⊎_elim, arith, ◌≢◌, Bool, true, true≢false, ◌&&◌}
+use Rattle.std.proofs.Common.{◌≡◌, ℕ, zero, suc, ◌<◌, List, [], ◌∷◌, ◌++◌, length, cond, false, Ok, Err, Result, refl, sym, ap, subst, ◌∙◌, inl, inr, ⊎_elim, arith}
+use Rattle.std.proofs.lemmas.Option.{none-some}
 use Rattle.std.specs.FinMap.{from_entries}
-use Rattle.std.specs.Prelude.{slice_index, nat_lt}
+use Rattle.std.specs.Prelude.{slice_index}
 use Rattle.record_store.specs.Interns.{Interns}
-use Rattle.record_store.specs.StoreView.{find_in}
 use Rattle.record_store.specs.declared.store.StoreFull.{StoreFull}
-use Rattle.table_rule.specs.Counts.{IsIn, times}
+use Rattle.table_rule.specs.Counts.{IsIn}
 use Rattle.table_rule.specs.Laws.{IsViewOf}
-use Rattle.table_rule.specs.PassStore.{pass_store, stamp_of, is_spent, is_empty, has_below}
+use Rattle.table_rule.specs.PassStore.{pass_store, stamp_of, is_spent}
+use Rattle.table_rule.specs.Stores.{IsSoundStore, HasJoined}
 use Rattle.table_rule.specs.Views.{joined_view, see_chunk}
-use Rattle.table_rule.specs.Words.{IsLayout, chunks}
+use Rattle.table_rule.specs.Words.{IsLayout}
 use Rattle.table_rule.specs.declared.layout.Layout.{Layout}
 use Rattle.table_rule.specs.declared.view.PassView.{PassView}
-use Rattle.table_rule.proofs.Lists.{in_left, in_right, in_append, is_in_times}
-use Rattle.table_rule.proofs.PassStore.{known_in, in_known, interns_known, interns_made, interns_full, spends}
-use Rattle.table_rule.proofs.Passes.{knows_once, makes_once, whole_owns_all, known_placed}
+use Rattle.table_rule.proofs.Lists.{in_left, in_right}
+use Rattle.table_rule.proofs.PassStore.{in_known, interns_known, interns_made, interns_full, spends, spent_is}
+use Rattle.table_rule.proofs.Stamps.{gone_count_is}
+use Rattle.table_rule.proofs.Stores.{HasTakenIn, sound_store, joined_stores}
+use Rattle.table_rule.proofs.Passes.{knows_once, whole_owns_all, known_placed}
 use Rattle.table_rule.proofs.WordLaws.{same_eight, eight_of}
 use Rattle.unique_table.specs.Exploring.{HasOnlyRead}
 use Rattle.unique_table.specs.Passes.{IsSoundPass, HasMet}
 use Rattle.unique_table.specs.Probing.{Ends}
-use Rattle.unique_table.specs.Stocked.{IsStock}
+use Rattle.unique_table.specs.Stocked.{IsStock, StartsEmpty}
 use Rattle.unique_table.specs.Values.{IsShape}
 use Rattle.unique_table.specs.declared.stock.Stock.{Stock}
 
 module _ (names : List ℕ) (L : Layout) where
   same_stamp : (v w : PassView) → w.gone ≡ v.gone → w.tokens ≡ v.tokens → w.joined ≡ v.joined → w.forked ≡ v.forked → stamp_of names L w ≡ stamp_of names L v
   same_stamp v w gone tokens joined forked =
-      λ i. names ++ L.tokens ∷ length (gone i) ∷ joined i ∷ cond (forked i) 1 0 ∷ tokens i
+      λ i. length names ∷ names ++ L.tokens ∷ length (gone i) ∷ joined i ∷ cond (forked i) 1 0 ∷ tokens i
 
   pub ends_interns : (v w : PassView) (node : List ℕ) (r : Result ℕ StoreFull) → IsLayout L → IsViewOf L w → Ends L v node r w → Interns (pass_store names L v) (pass_store names L w) node r
   ends_interns v w node (Ok id) l p h =
@@ -59,42 +60,20 @@ module _ (names : List ℕ) (L : Layout) where
       let node_long : length node ≡ 8 = ap (λ (n : List ℕ). length n) (sym is) in
       sym (eight_of node node_long) ∙ same_eight (slice_index node) (slice_index words) (λ j few. sym (same j few)) ∙ eight_of words long
 
-both_true : (a b : Bool) → (a && b) ≡ true → (a ≡ true) × (b ≡ true)
-both_true true b e = (refl, e)
-both_true false b e = absurd (true≢false (sym e))
-
-empty_is : (xs : List ℕ) → is_empty xs ≡ true → xs ≡ []
-empty_is [] e = refl
-empty_is (x ∷ xs) e = absurd (true≢false (sym e))
-
-below_is : (xs : List ℕ) (n : ℕ) → has_below xs n ≡ true → (h : ℕ) → h < n → IsIn xs h
-below_is xs zero e h few = absurd (omega arith)
-below_is xs (suc n) e h few =
-    let parts = both_true (nat_lt 0 (times n xs)) (has_below xs n) e in
-    ⊎_elim
-    (λ (last : h ≡ n). subst (IsIn xs) (sym last) (is_in_times n xs ((Decides-ltb 0 (times n xs)).0 parts.0)))
-    (λ (before : h ≢ n). below_is xs n parts.1 h (omega arith))
-    (cases_eq h n)
-
-spent_is : (L : Layout) (v : PassView) → is_spent L v ≡ true → (v.held ≡ []) × ((h : ℕ) → h < chunks L → IsIn v.taken h)
-spent_is L v e =
-    let parts = both_true (is_empty v.held) (has_below v.taken (chunks L)) e in
-    (empty_is v.held parts.0, below_is v.taken (chunks L) parts.1)
+knows_none : (es : List (ℕ × List ℕ)) → ((id : ℕ) (node : List ℕ) → IsIn es (id, node) → ⊥) → es ≡ []
+knows_none [] none = refl
+knows_none (e ∷ es) none = absurd (none e.0 e.1 (inl refl))
 
 -- what holds of every pass
-pub sound : (names : List ℕ) (L : Layout) (v : PassView) → IsShape L → IsViewOf L v → IsSoundPass (record { names = names; layout = L; view = v })
-sound names L v shape p =
-    let once = knows_once L v shape.layout p in
-    let makes = makes_once L v shape.layout p in
+pub sound : (names : List ℕ) (L : Layout) (v : PassView) → IsShape L → IsViewOf L v → v.ended ≡ false → StartsEmpty v → IsSoundPass (record { names = names; layout = L; view = v })
+sound names L v shape p live empty =
     let few = p.ruled.few p.pass v p.stands in
     let size = shape.chunk in
     record {
-      once = λ i j node a b. once.ids i j node (known_in names L v i node a) (known_in names L v j node b);
-      within = λ id k. once.within id k.0 (known_in names L v id k.0 k.1);
-      made_once = makes.once;
-      made_known = λ id there. let k = makes.known id there in (k.0, in_known names L v once id k.0 k.1);
+      live = live;
+      store = subst (λ (n : ℕ). IsSoundStore n (pass_store names L v)) size (sound_store names L v shape.layout p live);
+      empty = λ none. let e = empty (knows_none v.known (λ id node there. absurd (none-some node (sym (none id) ∙ in_known names L v (knows_once L v shape.layout p) id node there)))) in (e.0, gone_count_is names L v ∙ ap (λ (xs : List ℕ). length xs) e.1);
       held = omega (arith, few.0);
-      gone = let e : L.chunk * v.joined ≡ 256 * v.joined = ap (λ (n : ℕ). n * v.joined) size in omega (arith, few.1);
       spent = (λ e. spent_is L v e, λ all. spends L v all.0 all.1);
       whole = whole_owns_all L v shape.layout p;
     }
@@ -104,32 +83,11 @@ see_chunk_same h zero v = (refl, refl, refl, refl, refl, refl, refl, refl, λ j 
 see_chunk_same h (suc n) v = (refl, refl, refl, refl, refl, refl, refl, refl, λ j k. inr k)
 
 module _ (names : List ℕ) (L : Layout) (v u w : PassView) (h n : ℕ) (is : w ≡ see_chunk h n (joined_view v u)) where
-  both : PassView
-  both = joined_view v u
-
-  pub meets : IsLayout L → IsViewOf L v → IsViewOf L u → IsViewOf L w → HasMet (record { names = names; layout = L; view = v }) (record { names = names; layout = L; view = u }) (record { names = names; layout = L; view = w })
-  meets l pv pu pw =
+  took_in : HasTakenIn v u w
+  took_in =
       let same = see_chunk_same h n (joined_view v u) in
-      let once_v = knows_once L v l pv in
-      let once_u = knows_once L u l pu in
-      let once_w = knows_once L w l pw in
-      let known : w.known ≡ v.known ++ u.known = ap (λ (x : PassView). x.known) is ∙ same.0 in
       record {
-        table = (refl, refl);
-        known = λ id node. (
-          λ e.
-              ⊎_elim
-              (λ (mine : IsIn v.known (id, node)). inl (in_known names L v once_v id node mine))
-              (λ (theirs : IsIn u.known (id, node)). inr (in_known names L u once_u id node theirs))
-              (in_append v.known u.known (id, node) (subst (λ (es : List (ℕ × List ℕ)). IsIn es (id, node)) known (known_in names L w id node e))),
-          λ e.
-              let there : IsIn (v.known ++ u.known) (id, node) = ⊎_elim
-              (λ (mine : find_in (pass_store names L v) id ≡ Some node). in_left v.known u.known (id, node) (known_in names L v id node mine))
-              (λ (theirs : find_in (pass_store names L u) id ≡ Some node). in_right v.known u.known (id, node) (known_in names L u id node theirs))
-              e
-              in
-              in_known names L w once_w id node (subst (λ (es : List (ℕ × List ℕ)). IsIn es (id, node)) (sym known) there),
-        );
+        known = ap (λ (x : PassView). x.known) is ∙ same.0;
         made = ap (λ (x : PassView). x.made) is ∙ same.1;
         held = ap (λ (x : PassView). x.held) is ∙ same.2;
         gone = ap (λ (x : PassView). x.gone) is ∙ same.3;
@@ -139,6 +97,15 @@ module _ (names : List ℕ) (L : Layout) (v u w : PassView) (h n : ℕ) (is : w 
         taken = λ j there. subst (λ (x : PassView). IsIn x.taken j) (sym is)
             (same.8 j (⊎_elim (λ (mine : IsIn v.taken j). in_left v.taken u.taken j mine) (λ (theirs : IsIn u.taken j). in_right v.taken u.taken j theirs) there));
       }
+
+  pub meets : IsShape L → IsViewOf L v → IsViewOf L u → IsViewOf L w → HasMet (record { names = names; layout = L; view = v }) (record { names = names; layout = L; view = u }) (record { names = names; layout = L; view = w })
+  meets shape pv pu pw = record {
+    table = (refl, refl);
+    stores = subst (λ (c : ℕ). HasJoined c (pass_store names L v) (pass_store names L u) (pass_store names L w)) shape.chunk (joined_stores names L v u w shape.layout pv pu pw took_in);
+    held = took_in.held;
+    gone = took_in.gone;
+    taken = took_in.taken;
+  }
 
   pub stock_met : (s : Stock) → IsStock L v s → IsStock L w s
   stock_met s st =
@@ -153,3 +120,16 @@ module _ (names : List ℕ) (L : Layout) (v u w : PassView) (h n : ℕ) (is : w 
 
   pub live_met : w.ended ≡ false
   live_met = ap (λ (x : PassView). x.ended) is ∙ (see_chunk_same h n (joined_view v u)).7
+
+no_left : (xs ys : List (ℕ × List ℕ)) → xs ++ ys ≡ [] → (xs ≡ []) × (ys ≡ [])
+no_left [] ys e = (refl, e)
+no_left (x ∷ xs) ys e = absurd (omega (arith, ap (λ (zs : List (ℕ × List ℕ)). length zs) e))
+
+-- what a pass owns that knows nothing, after it took in another
+pub empty_met : (names : List ℕ) (L : Layout) (v u w : PassView) (h n : ℕ) → w ≡ see_chunk h n (joined_view v u) → StartsEmpty v → StartsEmpty u → StartsEmpty w
+empty_met names L v u w h n is a b none =
+    let t = took_in names L v u w h n is in
+    let both = no_left v.known u.known (sym t.known ∙ none) in
+    let x = a both.0 in
+    let y = b both.1 in
+    (t.held ∙ x.0, t.gone ∙ (λ i. x.1 i ++ y.0 i ++ y.1 i))

@@ -7,11 +7,11 @@ use Rattle.table_rule.specs.Words.{chunks}
 use Rattle.table_rule.specs.declared.layout.Layout.{Layout}
 use Rattle.table_rule.specs.declared.view.PassView.{PassView}
 use Rattle.unique_table.specs.PassInside.{IsPass}
-use Rattle.unique_table.specs.Stocked.{IsStock}
+use Rattle.unique_table.specs.Stocked.{IsStock, StartsEmpty}
 use Rattle.unique_table.specs.Values.{names_of, IsShape}
 use Rattle.unique_table.specs.declared.stock.Stock.{Stock}
 use Rattle.unique_table.specs.declared.table.TableValue.{TableValue}
-use Rattle.unique_table.proofs.Passes.{stock_met, live_met}
+use Rattle.unique_table.proofs.Passes.{stock_met, live_met, empty_met}
 use Rattle.unique_table.proofs.Possible.{forked_possible}
 
 abbrev Place : Type 0
@@ -28,6 +28,7 @@ module _ (t : TableValue) (p : Place) (s : Stock) (h : IsPass t p s) where
         live = ap (λ (v : PassView). v.ended) view ∙ h.live;
         possible = subst (IsViewOf t.layout) (sym view) (forked_possible t.layout p.me.0 h.possible h.live).0;
         stock = subst (λ (v : PassView). IsStock t.layout v s) (sym view) left;
+        empty = subst StartsEmpty (sym view) h.empty;
       }
 
   pub pass_split : (q : Place) → q.table_id ≡ p.table_id → q.me ≡ (forked_right p.me.0, []) → IsPass t q (record { next = 0; end = 0; chunk = s.chunk })
@@ -41,15 +42,17 @@ module _ (t : TableValue) (p : Place) (s : Stock) (h : IsPass t p s) where
         live = ap (λ (v : PassView). v.ended) view;
         possible = subst (IsViewOf t.layout) (sym view) (forked_possible t.layout p.me.0 h.possible h.live).1;
         stock = subst (λ (v : PassView). IsStock t.layout v none) (sym view) right;
+        empty = subst StartsEmpty (sym view) (λ _. (refl, refl));
       }
 
-  pub pass_met : (u : PassView) (q : Place) (n : ℕ) → names_of q.table_id ≡ t.names → q.me.1 ≡ [] → IsViewOf t.layout q.me.0 → q.me.0 ≡ see_chunk 0 n (joined_view p.me.0 u) → IsPass t q s
-  pass_met u q n names none possible is = record {
+  pub pass_met : (u : PassView) (q : Place) (n : ℕ) → StartsEmpty u → names_of q.table_id ≡ t.names → q.me.1 ≡ [] → IsViewOf t.layout q.me.0 → q.me.0 ≡ see_chunk 0 n (joined_view p.me.0 u) → IsPass t q s
+  pass_met u q n empty names none possible is = record {
     shape = h.shape;
     own = (names, none);
     live = live_met t.names t.layout p.me.0 u q.me.0 0 n is;
     possible = possible;
     stock = stock_met t.names t.layout p.me.0 u q.me.0 0 n is s h.stock;
+    empty = empty_met t.names t.layout p.me.0 u q.me.0 0 n is h.empty empty;
   }
 
 -- a table has a chunk

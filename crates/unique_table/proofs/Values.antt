@@ -12,5 +12,5 @@ same_names y z e = λ i. record {
   atom = slice_index (e i) 3;
   block = slice_index (e i) 4;
   offset = slice_index (e i) 5;
-  slot_names = drop 7 (e i);
+  slot_names = drop 6 (e i);
 }

@@ -6,3 +6,4 @@ pub mod Stocked
 pub mod Probing
 pub mod PassInside
 pub mod Passes
+pub mod Examples

@@ -3,7 +3,7 @@ use Rattle.std.specs.Prelude.{◌≡◌, false}
 use Rattle.atomic_table.specs.declared.shared.Seat.{Seat}
 use Rattle.table_rule.specs.Laws.{IsViewOf}
 use Rattle.table_rule.specs.declared.view.PassView.{PassView}
-use Rattle.unique_table.specs.Stocked.{IsStock}
+use Rattle.unique_table.specs.Stocked.{IsStock, StartsEmpty}
 use Rattle.unique_table.specs.Values.{IsShape}
 use Rattle.unique_table.specs.Walking.{IsAt}
 use Rattle.unique_table.specs.declared.stock.Stock.{Stock}
@@ -15,3 +15,4 @@ pub record IsPass (t : TableValue) (place : Seat (Unit {0}) PassView) (s : Stock
   pub live : place.me.0.ended ≡ false
   pub possible : IsViewOf t.layout place.me.0
   pub stock : IsStock t.layout place.me.0 s
+  pub empty : StartsEmpty place.me.0

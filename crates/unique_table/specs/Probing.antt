@@ -8,7 +8,7 @@ use Rattle.table_rule.specs.declared.layout.Layout.{Layout}
 use Rattle.table_rule.specs.declared.view.PassView.{PassView}
 use Rattle.unique_table.specs.Exploring.{HasExplored, HasOnlyRead}
 use Rattle.unique_table.specs.declared.probe.Claim.{Claim}
-use Rattle.unique_table.specs.declared.probe.Claim.TheVariants.{Made, Lost, Spent}
+use Rattle.unique_table.specs.declared.probe.Claim.TheVariants.{Made, Taken, Spent}
 use Rattle.unique_table.specs.declared.probe.Visit.{Visit}
 use Rattle.unique_table.specs.declared.probe.Visit.TheVariants.{Found, Other, Full}
 use Rattle.unique_table.specs.declared.stock.Stock.{Stock}
@@ -31,7 +31,7 @@ pub record HasAdded (v : PassView) (id : ℕ) (node : List ℕ) (w : PassView) :
 abbrev pub IsNew : PassView → List ℕ → Type 0
 IsNew v node = (id : ℕ) → IsIn v.known (id, node) → ⊥
 
--- an id was found in the bucket, where there was none before
+-- an id was found in the bucket
 pub record HasLost (v : PassView) (b id : ℕ) (w : PassView) : Type 0 where
   pub explored : HasExplored v w
   pub there : IsIn w.seen (b, id)
@@ -42,11 +42,17 @@ pub record HasNoCell (L : Layout) (v w : PassView) : Type 0 where
   pub explored : HasExplored v w
   pub spent : is_spent L w ≡ true
 
--- what came of an empty bucket
-abbrev pub Claims : Layout → PassView → List ℕ → ℕ → Claim → Stock → PassView → Type 0
-Claims L v node b (Made id) s w = HasAdded v id node w
-Claims L v node b (Lost id) s w = HasLost v b id w × IsDrafted w node s
-Claims L v node b Spent s w = HasNoCell L v w
+-- what came of a bucket that was empty
+abbrev pub Settles : Layout → PassView → List ℕ → ℕ → Claim → Stock → PassView → Type 0
+Settles L v node b (Made id) s w = HasAdded v id node w
+Settles L v node b (Taken id) s w = HasLost v b id w × IsDrafted w node s
+Settles L v node b Spent s w = HasNoCell L v w
+
+-- what came of a bucket, before its body is compared
+abbrev pub Claims : Layout → PassView → List ℕ → ℕ → Claim → Bool → Stock → PassView → Type 0
+Claims L v node b (Made id) drafted s w = HasAdded v id node w
+Claims L v node b (Taken id) drafted s w = HasLost v b id w × (drafted ≡ true → IsDrafted w node s)
+Claims L v node b Spent drafted s w = HasNoCell L v w × IsNew v node
 
 -- what came of a bucket
 abbrev pub Visits : Layout → PassView → List ℕ → ℕ → Visit → Bool → Stock → PassView → Type 0

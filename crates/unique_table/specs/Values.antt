@@ -1,6 +1,6 @@
 -- What contracts see of a table and of its passes.
 use Rattle.std.specs.Prelude.{◌≡◌, ℕ, ◌*◌, ◌<◌, ◌≤◌, ◌^◌, List, [], ◌∷◌, length, slice_get, Some}
-use Rattle.std.specs.Int.{IsPowerOfTwo, IsNextPowerOfTwo}
+use Rattle.std.specs.Int.{IsNextPowerOfTwo}
 use Rattle.atomic_table.specs.Seated.{TableId}
 use Rattle.table_rule.specs.Laws.{IsViewOf}
 use Rattle.table_rule.specs.Views.{fresh}
@@ -12,7 +12,7 @@ use Rattle.unique_table.specs.declared.token.PassValue.{PassValue}
 
 -- the numbers that name a table
 abbrev pub names_of : TableId → List ℕ
-names_of z = z.words ∷ z.slots ∷ z.views_name ∷ z.atom ∷ z.block ∷ z.offset ∷ length z.slot_names ∷ z.slot_names
+names_of z = z.words ∷ z.slots ∷ z.views_name ∷ z.atom ∷ z.block ∷ z.offset ∷ z.slot_names
 
 -- the layout of a table of so many cells and passes
 pub record IsLayoutFor (count passes : ℕ) (L : Layout) : Type 0 where
@@ -26,8 +26,8 @@ pub record IsShape (L : Layout) : Type 0 where
   pub layout : IsLayout L
   pub chunk : L.chunk ≡ 256
   pub few : L.cells ≤ 1048576
+  pub buckets : IsNextPowerOfTwo (2 * L.cells) L.buckets
   pub few_buckets : L.buckets < 2 ^ 32
-  pub power : IsPowerOfTwo L.buckets
 
 -- the view of a pass that was not begun yet: it has a token, and nothing else
 abbrev pub IsToken : Layout → PassView × List (ℕ × Unit {0}) → Type 0

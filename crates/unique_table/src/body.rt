@@ -8,7 +8,7 @@ ghost use Rattle.unique_table.specs.Walking.{IsAt};
 
 use crate::step::Place;
 use crate::table::SharedTable;
-use crate::walk::{read_last, read_word, write_word};
+use crate::walk::{cell_start, first_word, read_last, read_word, write_word};
 
 /// Whether the body under an id that was seen in a bucket is this one. Then the id is known.
 pub(crate) fn has_body(table: &SharedTable, place: &mut Place, id: u32, body: &[u64; 8]) -> bool
@@ -21,12 +21,13 @@ pub(crate) fn has_body(table: &SharedTable, place: &mut Place, id: u32, body: &[
     ensures yes { IsTrue result → HasLearned place.old.me.0 id body.now place.new.me.0 }
     ensures no { result ≡ false → HasFoundOther place.old.me.0 id body.now place.new.me.0 }
 {
+    let first = first_word(table, place, id);
     for i in 0..7 {
-        if read_word(table, place, id, i) != body[i] {
+        if read_word(table, place, id, first, i) != body[i] {
             return false;
         }
     }
-    let last = read_last(table, place, id, body[7]);
+    let last = read_last(table, place, id, first, body[7]);
     last == body[7]
 }
 
@@ -42,7 +43,8 @@ pub(crate) fn write_draft(table: &SharedTable, place: &mut Place, cell: u32, bod
     ensures possible { IsViewOf table.now.layout place.new.me.0 }
     ensures view { place.new.me.0 ≡ drafted body.now place.old.me.0 }
 {
+    let first = cell_start(table, cell);
     for i in 0..8 {
-        write_word(table, place, cell, i, body[i]);
+        write_word(table, place, cell, first, i, body[i]);
     }
 }

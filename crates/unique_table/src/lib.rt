@@ -18,6 +18,8 @@ mod stock;
 mod table;
 #[cfg(test)]
 mod tests;
+#[cfg(test)]
+mod thread_tests;
 mod token;
 mod walk;
 

@@ -1,6 +1,7 @@
 ghost use Rattle.std.specs.Prelude.{◌≡◌, length, Some};
 ghost use Rattle.record_store.specs.Interns.{Interns};
 ghost use Rattle.record_store.specs.StoreView.{find_in, IsKnown};
+ghost use Rattle.table_rule.specs.Stores.{AreOfOneTable};
 ghost use Rattle.table_rule.specs.Views.{forked_left, forked_right};
 ghost use Rattle.unique_table.specs.Passes.{pass_view, with_view, IsOneTable, IsSoundPass, HasMet};
 
@@ -8,7 +9,7 @@ use crate::probe::find_or_add;
 use crate::step::{Forks, Meets, Place};
 use crate::stock::Stock;
 use crate::table::SharedTable;
-use crate::walk::{look_chunk, read_word};
+use crate::walk::{first_word, look_chunk, read_word};
 use record_store::{Store, StoreFull};
 use std::marker::Model;
 
@@ -48,9 +49,10 @@ impl<'t> Store for SharedPass<'t> {
         ensures unchanged { pass_view self.new ≡ pass_view self.old }
         ensures table { IsOneTable self.old self.new }
     {
+        let first = first_word(self.table, &self.place, id);
         let mut body = [0; 8];
         for i in 0..8 {
-            body[i] = read_word(self.table, &mut self.place, id, i);
+            body[i] = read_word(self.table, &mut self.place, id, first, i);
         }
         body
     }
@@ -79,7 +81,7 @@ impl<'t> SharedPass<'t> {
 
     /// Takes in another pass of the table, whose unused cells are given up.
     pub fn meet(&mut self, other: SharedPass<'t>)
-        requires table { IsOneTable self.old other }
+        requires table { AreOfOneTable (pass_view self.old) (pass_view other) }
         ensures met { HasMet self.old other.entry self.new }
         ensures sound { IsSoundPass self.new }
     {

@@ -5,7 +5,7 @@ ghost use Rattle.table_rule.specs.Laws.{IsViewOf};
 ghost use Rattle.table_rule.specs.PassStore.{is_spent};
 ghost use Rattle.table_rule.specs.Steps.{IsCovered};
 ghost use Rattle.unique_table.specs.Exploring.{HasExplored};
-ghost use Rattle.unique_table.specs.Probing.{IsDrafted, HasAdded, HasLost, Claims, Compares, Visits, Ends};
+ghost use Rattle.unique_table.specs.Probing.{IsDrafted, HasAdded, HasLost, Settles, Claims, Compares, Visits, Ends};
 ghost use Rattle.unique_table.specs.Stocked.{IsStock};
 ghost use Rattle.unique_table.specs.declared.stock.Stock.{Stock};
 ghost use Rattle.unique_table.specs.Walking.{IsAt};
@@ -17,14 +17,14 @@ use crate::table::SharedTable;
 use crate::walk::{look, publish_at};
 use record_store::{StoreFull, start};
 
-/// What came of an empty bucket.
+/// What stands in a bucket, where the body was put in if it was empty.
 #[derive(Clone, Copy, Drop)]
 pub(crate) enum Claim {
-    /// The body was published there, under this id.
+    /// The body, which was published under this id.
     Made(u32),
-    /// Another pass was there before, with this id.
-    Lost(u32),
-    /// There is no cell for the body.
+    /// Some body that another call published, under this id.
+    Taken(u32),
+    /// Nothing, since there is no cell for the body.
     Spent,
 }
 
@@ -118,7 +118,7 @@ fn settle(
     ensures own { IsAt table.now place.new }
     ensures possible { IsViewOf table.now.layout place.new.me.0 }
     ensures stock { IsStock table.now.layout place.new.me.0 stock.new }
-    ensures came { Claims table.now.layout place.old.me.0 body.now bucket result stock.new place.new.me.0 }
+    ensures came { Settles table.now.layout place.old.me.0 body.now bucket result stock.new place.new.me.0 }
 {
     if !prepare(table, place, stock, body, drafted) {
         return Claim::Spent;
@@ -127,8 +127,37 @@ fn settle(
     if found == 0 {
         Claim::Made(stock.next)
     } else {
-        Claim::Lost(found)
+        Claim::Taken(found)
     }
+}
+
+/// Looks at a bucket, and puts the body in where it is empty.
+fn claim_bucket(
+    table: &SharedTable,
+    place: &mut Place,
+    stock: &mut Stock,
+    bucket: u64,
+    body: &[u64; 8],
+    drafted: &mut bool,
+) -> Claim
+    requires own { IsAt table.now place.old }
+    requires live { place.old.me.0.ended ≡ false }
+    requires possible { IsViewOf table.now.layout place.old.me.0 }
+    requires stock { IsStock table.now.layout place.old.me.0 stock.old }
+    requires drafted { drafted.old ≡ true → IsDrafted place.old.me.0 body.now stock.old }
+    requires within { bucket < table.now.layout.buckets }
+    requires covered { IsCovered table.now.layout place.old.me.0 body.now bucket }
+    ensures own { IsAt table.now place.new }
+    ensures possible { IsViewOf table.now.layout place.new.me.0 }
+    ensures stock { IsStock table.now.layout place.new.me.0 stock.new }
+    ensures came { Claims table.now.layout place.old.me.0 body.now bucket result drafted.new stock.new place.new.me.0 }
+{
+    let _layout = &table.layout;
+    let found = look(table, place, bucket) as u32;
+    if found != 0 {
+        return Claim::Taken(found);
+    }
+    settle(table, place, stock, bucket, body, drafted)
 }
 
 /// Compares the body with that under an id that was seen in a bucket.
@@ -170,17 +199,15 @@ fn visit_bucket(
     ensures stock { IsStock table.now.layout place.new.me.0 stock.new }
     ensures came { Visits table.now.layout place.old.me.0 body.now bucket result drafted.new stock.new place.new.me.0 }
 {
-    let _layout = &table.layout;
-    let found = look(table, place, bucket) as u32;
-    if found != 0 {
-        return compare(table, place, bucket, found, body);
-    }
-    match settle(table, place, stock, bucket, body, drafted) {
+    match claim_bucket(table, place, stock, bucket, body, drafted) {
         Claim::Made(id) => Visit::Found(id),
-        Claim::Lost(id) => compare(table, place, bucket, id, body),
+        Claim::Taken(id) => compare(table, place, bucket, id, body),
         Claim::Spent => Visit::Full,
     }
 }
+
+/// A power of two, and more buckets than a table has. So the start of a body among them tells that in any table, by a mask.
+const MOST_BUCKETS: u64 = 4_294_967_296;
 
 /// Follows the path of a body to its id, or to an empty bucket, where it is put in.
 pub(crate) fn find_or_add(
@@ -200,7 +227,7 @@ pub(crate) fn find_or_add(
 {
     let buckets = table.layout.buckets;
     let mask = buckets - 1;
-    let mut bucket = start(body, buckets);
+    let mut bucket = start(body, MOST_BUCKETS) & mask;
     let mut drafted = false;
     for distance in 0..buckets {
         match visit_bucket(table, place, stock, bucket, body, &mut drafted) {

@@ -1,8 +1,10 @@
-ghost use Rattle.std.specs.Prelude.{◌≡◌, ℕ, ◌+◌, ◌<◌, ◌≤◌, ◌%◌, IfOk, [], ◌∷◌, length, slice_get, Some};
+ghost use Rattle.std.specs.Prelude.{◌≡◌, ℕ, ◌+◌, ◌<◌, ◌≤◌, ◌%◌, IfOk, [], ◌∷◌, length, slice_get, Some, None};
 ghost use Rattle.std.specs.List.{All, range_with_len};
+ghost use Rattle.record_store.specs.StoreView.{find_in};
 ghost use Rattle.table_rule.specs.Views.{fresh};
 ghost use Rattle.table_rule.specs.Words.{IsLayout, word_count};
 ghost use Rattle.table_rule.specs.declared.layout.Layout.{Layout};
+ghost use Rattle.unique_table.specs.Passes.{pass_view};
 ghost use Rattle.unique_table.specs.Values.{IsLayoutFor, IsMade, IsOf, IsShape, begun};
 
 use crate::pass::SharedPass;
@@ -127,6 +129,7 @@ impl SharedTable {
         requires own { IsOf self.now token }
         ensures pass { result ≡ token }
         ensures unbegun { token.view ≡ fresh token.view.tokens }
+        ensures nothing { (id : ℕ) → find_in (pass_view result) id ≡ None }
     {
         let _layout = &self.layout;
         let PassToken { layout: _, place } = token;

@@ -12,6 +12,24 @@ use crate::step::{Place, Taking, exchange, load, store};
 use crate::table::SharedTable;
 use std::marker::Brand;
 
+/// Where the words of a cell begin.
+pub(crate) fn cell_start(table: &SharedTable, cell: u32) -> usize
+    requires small { cell < table.now.layout.cells }
+    ensures { result ≡ word_at table.now.layout cell 0 }
+{
+    1 + table.layout.buckets as usize + 8 * cell as usize
+}
+
+/// Where the body under an id that was met begins.
+pub(crate) fn first_word(table: &SharedTable, place: &Place, id: u32) -> usize
+    requires live { place.now.me.0.ended ≡ false }
+    requires possible { IsViewOf table.now.layout place.now.me.0 }
+    requires met { IsMet place.now.me.0 id }
+    ensures { result ≡ word_at table.now.layout (id - 1) 0 }
+{
+    cell_start(table, id - 1)
+}
+
 /// Reads a bucket.
 pub(crate) fn look(table: &SharedTable, place: &mut Place, bucket: u64) -> u64
     requires own { IsAt table.now place.old }
@@ -47,12 +65,20 @@ pub(crate) fn publish_at(table: &SharedTable, place: &mut Place, cell: u32, buck
 }
 
 /// Writes a word of the draft.
-pub(crate) fn write_word(table: &SharedTable, place: &mut Place, cell: u32, i: usize, word: u64)
+pub(crate) fn write_word(
+    table: &SharedTable,
+    place: &mut Place,
+    cell: u32,
+    first: usize,
+    i: usize,
+    word: u64,
+)
     requires own { IsAt table.now place.old }
     requires live { place.old.me.0.ended ≡ false }
     requires cell { draft_cell place.old.me.0 ≡ cell }
     requires held { 0 < length place.old.me.0.held }
     requires small { cell < table.now.layout.cells }
+    requires first { first ≡ word_at table.now.layout cell 0 }
     requires few { i < 8 }
     requires next { i ≤ length place.old.me.0.draft }
     ensures own { IsAt table.now place.new }
@@ -60,7 +86,6 @@ pub(crate) fn write_word(table: &SharedTable, place: &mut Place, cell: u32, i: u
     ensures possible { IsViewOf table.now.layout place.new.me.0 }
 {
     let words = &table.table.shared;
-    let first = 1 + table.layout.buckets as usize + 8 * cell as usize;
     store::<Brand>(words, place, first + i, word);
 }
 
@@ -99,12 +124,14 @@ fn read_at<E: Taking>(
     table: &SharedTable,
     place: &mut Place,
     id: u32,
+    first: usize,
     i: usize,
     _wanted: u64,
 ) -> u64
     requires own { IsAt table.now place.old }
     requires some { 0 < id }
     requires small { id ≤ table.now.layout.cells }
+    requires first { first ≡ word_at table.now.layout (id - 1) 0 }
     requires few { i < 8 }
     requires key { E.layout ≡ table.now.layout }
     requires allowed { CanTake E.layout E.event place.old.me.0 (word_at E.layout (id - 1) i) (λ n. n) }
@@ -112,36 +139,49 @@ fn read_at<E: Taking>(
     ensures taken { HasTaken E.layout E.event place.old.me.0 (word_at E.layout (id - 1) i) result place.new.me.0 }
 {
     let words = &table.table.shared;
-    let first = 1 + table.layout.buckets as usize + 8 * (id as usize - 1);
     load::<E>(words, place, first + i)
 }
 
 /// Reads a word of the body under an id that was met.
-pub(crate) fn read_word(table: &SharedTable, place: &mut Place, id: u32, i: usize) -> u64
+pub(crate) fn read_word(
+    table: &SharedTable,
+    place: &mut Place,
+    id: u32,
+    first: usize,
+    i: usize,
+) -> u64
     requires own { IsAt table.now place.old }
     requires live { place.old.me.0.ended ≡ false }
     requires possible { IsViewOf table.now.layout place.old.me.0 }
     requires met { IsMet place.old.me.0 id }
+    requires first { first ≡ word_at table.now.layout (id - 1) 0 }
     requires few { i < 8 }
     ensures own { IsAt table.now place.new }
     ensures view { place.new.me.0 ≡ read id i result place.old.me.0 }
     ensures possible { IsViewOf table.now.layout place.new.me.0 }
     ensures known { (node : List ℕ) → IsIn place.old.me.0.known (id, node) → result ≡ slice_index node i }
 {
-    read_at::<Brand>(table, place, id, i, 0)
+    read_at::<Brand>(table, place, id, first, i, 0)
 }
 
 /// Reads the last word of a body whose other words were read. Where it is the one that is wanted, the id is known.
-pub(crate) fn read_last(table: &SharedTable, place: &mut Place, id: u32, wanted: u64) -> u64
+pub(crate) fn read_last(
+    table: &SharedTable,
+    place: &mut Place,
+    id: u32,
+    first: usize,
+    wanted: u64,
+) -> u64
     requires own { IsAt table.now place.old }
     requires live { place.old.me.0.ended ≡ false }
     requires possible { IsViewOf table.now.layout place.old.me.0 }
     requires met { IsMet place.old.me.0 id }
+    requires first { first ≡ word_at table.now.layout (id - 1) 0 }
     requires read { (j : ℕ) → j < 7 → (word : ℕ) × IsIn place.old.me.0.words (id, j, word) }
     ensures own { IsAt table.now place.new }
     ensures other { result ≢ wanted → place.new.me.0 ≡ read id 7 result place.old.me.0 }
     ensures last { result ≡ wanted → KnowsAfter place.old.me.0 id wanted place.new.me.0 }
     ensures possible { IsViewOf table.now.layout place.new.me.0 }
 {
-    read_at::<Brand>(table, place, id, 7, wanted)
+    read_at::<Brand>(table, place, id, first, 7, wanted)
 }

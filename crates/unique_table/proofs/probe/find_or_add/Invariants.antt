@@ -1,7 +1,7 @@
-use Rattle.std.proofs.Common.{◌≡◌, ℕ, ◌<◌, true}
+use Rattle.std.proofs.Common.{◌≡◌, true}
 use Rattle.record_store.specs.Path.{path_bucket}
 use Rattle.table_rule.specs.Laws.{IsViewOf}
-use Rattle.table_rule.specs.Steps.{Differs}
+use Rattle.table_rule.specs.Steps.{HasPassed}
 use Rattle.unique_table.specs.Exploring.{HasExplored}
 use Rattle.unique_table.specs.Probing.{IsDrafted}
 use Rattle.unique_table.specs.Stocked.{IsStock}
@@ -17,5 +17,5 @@ invariant-loop-distance l = record {
   drafted : l.drafted ≡ true → IsDrafted l.place.me.0 l.body l.stock;
   count : l.buckets ≡ l.table.layout.buckets;
   here : path_bucket l.body l.table.layout.buckets l.distance ≡ l.bucket;
-  passed : (d : ℕ) → d < l.distance → Differs l.place.me.0 l.body (path_bucket l.body l.table.layout.buckets d);
+  passed : HasPassed l.table.layout l.place.me.0 l.body l.distance;
 }

@@ -1,4 +1,4 @@
-use Rattle.std.proofs.Common.{◌≡◌, ℕ, ◌+◌, ◌-◌, ◌*◌, arith, ap, sym, subst, ◌∙◌}
+use Rattle.std.proofs.Common.{◌≡◌, ℕ, ◌+◌, ◌-◌, arith, ap, sym, subst, ◌∙◌}
 use Rattle.table_rule.specs.Words.{word_at}
 use Rattle.table_rule.specs.declared.layout.Layout.{Layout}
 use Rattle.unique_table.specs.Taking.{CanTake}
@@ -13,6 +13,7 @@ load-requires g c =
     let key : c.table.inside.table.shared.key ≡ c.args.table.now.layout = c.table.invariant.1 ∙ ap (λ (t : TableValue). t.layout) c.table.view_is in
     let same = same_names c.args.place.now.table_id shared.table_id (c.requires.own.0 ∙ sym (ap (λ (t : TableValue). t.names) c.table.view_is)) in
     let cells = ap (λ (L : Layout). L.cells) key in
+    let key_buckets = ap (λ (L : Layout). L.buckets) key in
     let inside_buckets = ap (λ (L : Layout). L.buckets) c.table.invariant.1 in
     let inside_cells = ap (λ (L : Layout). L.cells) c.table.invariant.1 in
     let picked = c.requires.key ∙ sym key in
@@ -21,7 +22,8 @@ load-requires g c =
     let small = c.requires.small in
     let few = c.requires.few in
     let count = c.table.invariant.2 in
-    let word : ℕ = 1 + c.table.inside.layout.buckets + 8 * (c.args.id - 1) + c.args.i in
+    let first = c.requires.first in
+    let word : ℕ = c.args.first + c.args.i in
     let at : word_at L (c.args.id - 1) c.args.i ≡ word = omega arith in
     record {
       own = same;

@@ -11,6 +11,7 @@ read_at-requires c =
       own = c.requires.own;
       some = within.0;
       small = within.1;
+      first = c.requires.first;
       few = omega arith;
       key = refl;
       allowed = can_read_last c.args.table.now.layout c.args.place.now.me.0 c.args.id c.args.wanted c.requires.live c.requires.met c.requires.read;

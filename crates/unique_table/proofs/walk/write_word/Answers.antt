@@ -1,4 +1,4 @@
-use Rattle.std.proofs.Common.{◌≡◌, ℕ, ◌+◌, ◌-◌, ◌*◌, rules, arith, ap, sym, subst, ◌∙◌}
+use Rattle.std.proofs.Common.{◌≡◌, ℕ, ◌+◌, ◌-◌, rules, arith, ap, sym, subst, ◌∙◌}
 use Rattle.table_rule.specs.Steps.{store_word, draft_cell}
 use Rattle.table_rule.specs.Words.{word_at}
 use Rattle.table_rule.specs.declared.layout.Layout.{Layout}
@@ -22,7 +22,8 @@ store-requires c =
     let count = c.table.invariant.2 in
     let i : ℕ = c.args.i in
     let new : ℕ = c.args.word in
-    let word : ℕ = 1 + c.table.inside.layout.buckets + 8 * c.args.cell + i in
+    let first = c.requires.first in
+    let word : ℕ = c.args.first + i in
     let small = c.requires.small in
     let few = c.requires.few in
     let cell = c.requires.cell in

@@ -13,4 +13,4 @@ returns-clause-count c =
 pub returns-clause-pass : goal.returns-clause-pass
 returns-clause-pass c =
     let t = c.self.inside.table.now in
-    subst IsSoundPass c.self.view_is (sound t.names t.layout c.self.inside.place.me.0 c.self.invariant.shape c.self.invariant.possible)
+    subst IsSoundPass c.self.view_is (sound t.names t.layout c.self.inside.place.me.0 c.self.invariant.shape c.self.invariant.possible c.self.invariant.live c.self.invariant.empty)

@@ -8,6 +8,13 @@ use Rattle.unique_table.specs.declared.token.PassValue.{PassValue}
 use Rattle.unique_table.proofs.Passes.{is_body}
 use Rattle.unique_table.proofs.pass.SharedPassStore.fields.Goals as goal
 
+pub first_word-first-requires-clause-met : goal.first_word-first-requires-clause-met
+first_word-first-requires-clause-met c =
+    let t = c.self.inside.table.now in
+    let v : PassView = c.self.inside.place.me.0 in
+    let found : find_in (pass_view (record { names = t.names; layout = t.layout; view = v })) c.args.id ≡ Some c.requires.0 = ap (λ (p : PassValue). find_in (pass_view p) c.args.id) c.self.view_is ∙ c.requires.1 in
+    inr (c.requires.0, known_in t.names t.layout v c.args.id c.requires.0 found)
+
 pub read_word-requires-clause-met : goal.read_word-requires-clause-met
 read_word-requires-clause-met c =
     let t = c.self.inside.table.now in

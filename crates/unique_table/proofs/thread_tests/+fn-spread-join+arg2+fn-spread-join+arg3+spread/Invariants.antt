@@ -1,5 +1,5 @@
 use Rattle.std.proofs.Common.{◌*◌, ◌+◌}
-use Rattle.unique_table.proofs.tests.+fn-spread-join+arg2+fn-spread-join+arg3+spread.Given as goal
+use Rattle.unique_table.proofs.thread_tests.+fn-spread-join+arg2+fn-spread-join+arg3+spread.Given as goal
 
 abbrev pub decreases-join+arg2 : goal.decreases-join+arg2
 decreases-join+arg2 g l = 2 * l.less + 1
