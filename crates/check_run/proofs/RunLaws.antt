@@ -1,12 +1,13 @@
 -- What a run does, from what it loaded, wrote and answers.
 use Rattle.std.proofs.Common.{◌≡◌, refl, sym, ◌∙◌, ap, subst, ℕ, ◌≤◌, Bool, true, false, if◌then◌else◌, List, [], ◌∷◌, length, arith, inl, inr, le_refl}
-use Rattle.std.specs.Prelude.{Option, Some, None, Result, Ok, Err, IfOk, OnErr, slice_get}
+use Rattle.std.specs.Prelude.{◌⊎◌, Option, Some, None, Result, Ok, Err, IfOk, OnErr, slice_get}
 use Rattle.std.specs.List.{list_any}
 use Rattle.std.specs.declared.alloc.AllocError.{AllocError}
 use Rattle.std.specs.Io.KnownBytes.{Appends}
 use Rattle.std.proofs.lemmas.Option.{same_Some}
 use Rattle.circuits.specs.Circuit.{Circuit}
 use Rattle.bench_reader.specs.Reading as bench
+use Rattle.command_line.specs.Commands.{IsForClap}
 use Rattle.spec_lang.specs.Specification.{Check, Specification}
 use Rattle.spec_grammar.specs.Reading as grammar
 use Rattle.settings.specs.declared.command.Settings.{Settings}
@@ -15,7 +16,7 @@ use Rattle.checks.specs.Answer.{answer}
 use Rattle.checks.specs.declared.verdict.Verdict.{Verdict}
 use Rattle.checks.specs.declared.verdict.Verdict.TheVariants.{Equal, Different, Overflow, Full}
 use Rattle.outside.specs.Count.{raised, Rose}
-use Rattle.outside.specs.Shelf.{told, Holds, IsLonger, IsWhole, Lacks}
+use Rattle.outside.specs.Shelf.{IsLonger, IsWhole}
 use Rattle.outside.specs.Sink.{AppendsPrefix}
 use Rattle.report.specs.declared.refusal.Refusal.{Refusal}
 use Rattle.texts.specs.declared.limits.TheConstants.{MOST_BYTES}
@@ -24,115 +25,129 @@ use Rattle.check_run.specs.declared.status.Status.TheVariants.{Done, Differs, Re
 use Rattle.check_run.specs.Files.{Accepts, IsText, RefusesNetlist, RefusesSpec, SaysNetlist}
 use Rattle.check_run.specs.Loading.{PutsText}
 use Rattle.check_run.specs.Outside.{Files, Outside, ShelfSeen}
-use Rattle.check_run.specs.Reading.{FailsToRead, IsRefused, IsTaken, IsUnread, WantsMemory}
+use Rattle.check_run.specs.Reading.{FailsIn, FailsToRead, IsRefused, IsTaken, IsUnread, RefusesIn, TakesTexts, WantsIn, WantsMemory}
 use Rattle.check_run.specs.Run.{AnswerAll, GivesReport, IsOutput, IsRefusalLine, IsReport, IsRun, WritesReport, is_written}
+use Rattle.check_run.specs.Sources.{MayBeThere, PlainSource, Told, netlist_told, spec_told}
 use Rattle.check_run.specs.Statuses.{is_different, is_limit}
 use Rattle.check_run.specs.Verdicts.{AreReported, IsReported, IsVerdictOf, MeetsNoLimit}
-use Rattle.check_run.specs.Words.{Names, names_of}
+use Rattle.check_run.specs.Words.{PlainAsked, asked_of}
 use Rattle.check_run.proofs.FileLaws.{longer_is_there, text_is_there}
 
--- ---- files that are there
-refused_is_there : (files : Files) (name : List ℕ) (r : Refusal) → RefusesNetlist files name r → Lacks files name → ⊥
-refused_is_there files name r (inl (is, longer)) lacks = longer_is_there files name longer lacks
-refused_is_there files name r (inr (text, fault, is, reads, says)) lacks = text_is_there files name text is lacks
+-- ---- texts that are there
+refused_is_there : (text : Told) (r : Refusal) → RefusesNetlist text r → MayBeThere text
+refused_is_there text r (inl (is, longer)) = longer_is_there text longer
+refused_is_there text r (inr (bytes, fault, is, reads, says)) = text_is_there text bytes is
 
-refused_spec_is_there : (files : Files) (name : List ℕ) (k : KindName) (c : Circuit) (r : Refusal) → RefusesSpec files name k c r → Lacks files name → ⊥
-refused_spec_is_there files name k c r (inl (is, longer)) lacks = longer_is_there files name longer lacks
-refused_spec_is_there files name k c r (inr (text, fault, is, reads, says)) lacks = text_is_there files name text is lacks
+refused_spec_is_there : (k : KindName) (c : Circuit) (text : Told) (r : Refusal) → RefusesSpec k c text r → MayBeThere text
+refused_spec_is_there k c text r (inl (is, longer)) = longer_is_there text longer
+refused_spec_is_there k c text r (inr (bytes, fault, is, reads, says)) = text_is_there text bytes is
 
 -- ---- want of memory
-refused_wants : (words : List (List ℕ)) (old new : ShelfSeen) (r : Refusal) → IsRefused words old new r → WantsMemory words old new
-refused_wants words old new r (inl (refusal, none, never, is)) = inl (refusal, none, never, tt)
-refused_wants words old new r (inr (names, is, inl (once, refuses))) =
-    inr (names, is, inl (once, refused_is_there old.files names.netlist r refuses))
-refused_wants words old new r (inr (names, is, inr (c, says, twice, refuses))) =
-    inr (names, is, inr (c, says, twice, refused_spec_is_there old.files names.spec names.settings.kind c r refuses))
+refused_wants_in : (k : KindName) (source : PlainSource) (old new : ShelfSeen) (r : Refusal) → RefusesIn r k source old new → WantsIn source old new
+refused_wants_in k source old new r (inl (once, refuses)) = inl (once, refused_is_there (netlist_told old.files source) r refuses)
+refused_wants_in k source old new r (inr (c, says, twice, refuses)) =
+    inr (c, says, twice, refused_spec_is_there k c (spec_told old.files source) r refuses)
 
-taken_wants : (words : List (List ℕ)) (old new : ShelfSeen) (opts : Settings) (c : Circuit) (s : Specification) → IsTaken words old new opts c s → WantsMemory words old new
-taken_wants words old new opts c s taken =
-    inr (taken.names, taken.named, inr (c, taken.netlist, taken.fetches, text_is_there old.files taken.names.spec taken.spec.0 taken.spec.1))
+refused_wants : (words : List (List ℕ)) (old new : ShelfSeen) (r : Refusal) → IsRefused words old new r → WantsMemory words old new
+refused_wants words old new r (inl (is, never)) = inr (inl (r, is, never))
+refused_wants words old new r (inr (a, asks, refuses)) = inr (inr (a, asks, refused_wants_in a.settings.kind a.source old new r refuses))
+
+taken_wants : (words : List (List ℕ)) (old new : ShelfSeen) (a : PlainAsked) (c : Circuit) (s : Specification) → IsTaken words old new a c s → WantsMemory words old new
+taken_wants words old new a c s taken =
+    let (bytes, is, reads) = taken.texts.spec in
+    inr (inr (a, taken.asks, inr (c, taken.texts.netlist, taken.texts.fetches, text_is_there (spec_told old.files a.source) bytes is)))
 
 output_wants : (words : List (List ℕ)) (old new : ShelfSeen) (text : List ℕ) (status : Status) → IsOutput words old new text status → WantsMemory words old new
 output_wants words old new text status (inl (r, refused, line)) = refused_wants words old new r refused
-output_wants words old new text status (inr (opts, c, s, verdicts, taken, reported, report)) = taken_wants words old new opts c s taken
+output_wants words old new text status (inr (a, c, s, verdicts, taken, reported, report)) = taken_wants words old new a c s taken
 
-same_names : (words : List (List ℕ)) (a b : Names) → names_of words ≡ Ok a → names_of words ≡ Ok b → a ≡ b
-same_names words a b is other = let both : Ok a ≡ Ok b = sym is ∙ other in cc
+-- words ask for one thing
+same_asked : (words : List (List ℕ)) (a b : PlainAsked) → asked_of words ≡ Ok a → asked_of words ≡ Ok b → b ≡ a
+same_asked words a b is other = let both : Ok b ≡ Ok a = sym other ∙ is in cc
 
-not_absent : (words : List (List ℕ)) (old new : ShelfSeen) (names : Names) → WantsMemory words old new → names_of words ≡ Ok names →
-    Lacks old.files names.netlist → ⊥
-not_absent words old new names (inl (refusal, none, never, _)) named lacks = absurd (cc)
-not_absent words old new names (inr (found, is, inl (once, there))) named lacks =
-    there (subst (λ (n : Names). Lacks old.files n.netlist) (same_names words names found named is) lacks)
-not_absent words old new names (inr (found, is, inr (c, says, twice, there))) named lacks =
-    text_is_there old.files found.netlist says.0 says.1
-    (subst (λ (n : Names). Lacks old.files n.netlist) (same_names words names found named is) lacks)
+not_absent_in : (source : PlainSource) (old new : ShelfSeen) → WantsIn source old new → MayBeThere (netlist_told old.files source)
+not_absent_in source old new (inl (once, there)) = there
+not_absent_in source old new (inr (c, (bytes, is, reads), twice, there)) = text_is_there (netlist_told old.files source) bytes is
+
+-- where the netlist's text is absent, memory can want at the words alone
+only_at_words : (words : List (List ℕ)) (old new : ShelfSeen) (a : PlainAsked) → WantsMemory words old new → asked_of words ≡ Ok a →
+    netlist_told old.files a.source ≡ Some None → IsForClap words
+only_at_words words old new a (inl (for_clap, never)) asks lacks = for_clap
+only_at_words words old new a (inr (inl (refusal, is, never))) asks lacks = absurd (let both : Ok a ≡ Err refusal = sym asks ∙ is in cc)
+only_at_words words old new a (inr (inr (b, other, wants))) asks lacks =
+    absurd (not_absent_in a.source old new (subst (λ (x : PlainAsked). WantsIn x.source old new) (same_asked words a b asks other) wants) lacks)
+
+present_refused : (words : List (List ℕ)) (old new : ShelfSeen) (a : PlainAsked) (r : Refusal) → IsRefused words old new r → asked_of words ≡ Ok a →
+    MayBeThere (netlist_told old.files a.source)
+present_refused words old new a r (inl (is, never)) asks = absurd (let both : Ok a ≡ Err r = sym asks ∙ is in cc)
+present_refused words old new a r (inr (b, other, refuses)) asks =
+    not_absent_in a.source old new (subst (λ (x : PlainAsked). WantsIn x.source old new) (same_asked words a b asks other) (refused_wants_in b.settings.kind b.source old new r refuses))
+
+-- where something was written, the netlist's text was not absent
+present : (words : List (List ℕ)) (old new : ShelfSeen) (a : PlainAsked) (text : List ℕ) (status : Status) → IsOutput words old new text status → asked_of words ≡ Ok a →
+    MayBeThere (netlist_told old.files a.source)
+present words old new a text status (inl (r, refused, line)) asks = present_refused words old new a r refused asks
+present words old new a text status (inr (b, c, s, verdicts, taken, reported, report)) asks =
+    let (bytes, is, reads) = taken.texts.netlist in
+    subst (λ (x : PlainAsked). MayBeThere (netlist_told old.files x.source)) (same_asked words a b asks taken.asks)
+    (text_is_there (netlist_told old.files b.source) bytes is)
 
 -- ---- what is taken is not refused
 same_circuit : (text other : List ℕ) (c d : Circuit) → bench.reading text ≡ Ok c → bench.reading other ≡ Ok d → other ≡ text → d ≡ c
 same_circuit text other c d reads says is = let both : bench.reading text ≡ Ok d = ap bench.reading (sym is) ∙ says in cc
 
 -- a told text is the only one
-only_text : (files : Files) (name text other : List ℕ) → Holds files name text → IsText files name other → other ≡ text
-only_text files name text other holds is = subst (λ (o : Option (Option (List ℕ))). IsWhole o other) holds is.whole
+only_text : (text : Told) (bytes other : List ℕ) → text ≡ Some (Some bytes) → IsText text other → other ≡ bytes
+only_text text bytes other holds is = subst (λ (o : Told). IsWhole o other) holds is.whole
 
-not_longer : (files : Files) (name text : List ℕ) → Holds files name text → length text ≤ MOST_BYTES → IsLonger (told files name) MOST_BYTES → ⊥
-not_longer files name text holds within longer =
-    let more = subst (λ (o : Option (Option (List ℕ))). IsLonger o MOST_BYTES) holds longer in omega (arith, more, within)
+not_longer : (text : Told) (bytes : List ℕ) → text ≡ Some (Some bytes) → length bytes ≤ MOST_BYTES → IsLonger text MOST_BYTES → ⊥
+not_longer text bytes holds within longer =
+    let more = subst (λ (o : Told). IsLonger o MOST_BYTES) holds longer in omega (arith, more, within)
 
-accepted_netlist : (words : List (List ℕ)) (files : Files) (opts : Settings) (c d : Circuit) (s : Specification) (names : Names) → Accepts words files opts c s →
-    names_of words ≡ Ok names → SaysNetlist files names.netlist d → d ≡ c
-accepted_netlist words files opts c d s names takes named (text, is, reads) =
-    let same = same_names words names takes.names named takes.named in
-    same_circuit takes.netlist_text text c d takes.reads reads
-    (only_text files takes.names.netlist takes.netlist_text text takes.netlist (subst (λ (n : Names). IsText files n.netlist text) same is))
+accepted_netlist : (words : List (List ℕ)) (files : Files) (a : PlainAsked) (c d : Circuit) (s : Specification) → Accepts words files a c s →
+    SaysNetlist (netlist_told files a.source) d → d ≡ c
+accepted_netlist words files a c d s takes (bytes, is, reads) =
+    same_circuit takes.netlist bytes c d takes.reads reads (only_text (netlist_told files a.source) takes.netlist bytes takes.netlist_is is)
 
-same_settings : (words : List (List ℕ)) (files : Files) (opts : Settings) (c : Circuit) (s : Specification) (names : Names) → Accepts words files opts c s →
-    names_of words ≡ Ok names → names.settings ≡ opts
-same_settings words files opts c s names takes named = ap (λ (n : Names). n.settings) (same_names words names takes.names named takes.named) ∙ takes.settings
+accepted_spec : (words : List (List ℕ)) (files : Files) (a : PlainAsked) (c : Circuit) (s : Specification) (bytes : List ℕ) → Accepts words files a c s →
+    IsText (spec_told files a.source) bytes → grammar.reading c a.settings.kind bytes ≡ Ok s
+accepted_spec words files a c s bytes takes is =
+    ap (grammar.reading c a.settings.kind) (only_text (spec_told files a.source) takes.spec bytes takes.spec_is is) ∙ takes.says
 
-accepted_spec : (words : List (List ℕ)) (files : Files) (opts : Settings) (c : Circuit) (s : Specification) (names : Names) (text : List ℕ) → Accepts words files opts c s →
-    names_of words ≡ Ok names → IsText files names.spec text → grammar.reading c opts.kind text ≡ Ok s
-accepted_spec words files opts c s names text takes named is =
-    let same = same_names words names takes.names named takes.named in
-    ap (grammar.reading c opts.kind) (only_text files takes.names.spec takes.spec_text text takes.spec (subst (λ (n : Names). IsText files n.spec text) same is)) ∙ takes.says
-
-netlist_not_refused : (words : List (List ℕ)) (files : Files) (opts : Settings) (c : Circuit) (s : Specification) (names : Names) (r : Refusal) → Accepts words files opts c s →
-    names_of words ≡ Ok names → RefusesNetlist files names.netlist r → ⊥
-netlist_not_refused words files opts c s names r takes named (inl (is, longer)) =
-    let same = same_names words names takes.names named takes.named in
-    not_longer files takes.names.netlist takes.netlist_text takes.netlist takes.netlist_within
-    (subst (λ (n : Names). IsLonger (told files n.netlist) MOST_BYTES) same longer)
-netlist_not_refused words files opts c s names r takes named (inr (text, fault, is, reads, says)) =
-    let same = same_names words names takes.names named takes.named in
-    let one = only_text files takes.names.netlist takes.netlist_text text takes.netlist (subst (λ (n : Names). IsText files n.netlist text) same is) in
+netlist_not_refused : (words : List (List ℕ)) (files : Files) (a : PlainAsked) (c : Circuit) (s : Specification) (r : Refusal) → Accepts words files a c s →
+    RefusesNetlist (netlist_told files a.source) r → ⊥
+netlist_not_refused words files a c s r takes (inl (is, longer)) =
+    not_longer (netlist_told files a.source) takes.netlist takes.netlist_is takes.netlist_within longer
+netlist_not_refused words files a c s r takes (inr (bytes, fault, is, reads, says)) =
+    let one = only_text (netlist_told files a.source) takes.netlist bytes takes.netlist_is is in
     let both : Ok c ≡ Err fault = sym takes.reads ∙ ap bench.reading (sym one) ∙ reads in absurd (cc)
 
-spec_not_refused : (words : List (List ℕ)) (files : Files) (opts : Settings) (c : Circuit) (s : Specification) (names : Names) (r : Refusal) →
-    Accepts words files opts c s → names_of words ≡ Ok names → RefusesSpec files names.spec opts.kind c r → ⊥
-spec_not_refused words files opts c s names r takes named (inl (is, longer)) =
-    let same = same_names words names takes.names named takes.named in
-    not_longer files takes.names.spec takes.spec_text takes.spec takes.spec_within
-    (subst (λ (n : Names). IsLonger (told files n.spec) MOST_BYTES) same longer)
-spec_not_refused words files opts c s names r takes named (inr (text, fault, is, reads, says)) =
-    let both : Ok s ≡ Err fault = sym (accepted_spec words files opts c s names text takes named is) ∙ reads in absurd (cc)
+spec_not_refused : (words : List (List ℕ)) (files : Files) (a : PlainAsked) (c : Circuit) (s : Specification) (r : Refusal) → Accepts words files a c s →
+    RefusesSpec a.settings.kind c (spec_told files a.source) r → ⊥
+spec_not_refused words files a c s r takes (inl (is, longer)) =
+    not_longer (spec_told files a.source) takes.spec takes.spec_is takes.spec_within longer
+spec_not_refused words files a c s r takes (inr (bytes, fault, is, reads, says)) =
+    let both : Ok s ≡ Err fault = sym (accepted_spec words files a c s bytes takes is) ∙ reads in absurd (cc)
 
-not_refused : (words : List (List ℕ)) (old new : ShelfSeen) (opts : Settings) (c : Circuit) (s : Specification) (r : Refusal) → Accepts words old.files opts c s →
+not_refused_in : (words : List (List ℕ)) (old new : ShelfSeen) (a : PlainAsked) (c : Circuit) (s : Specification) (r : Refusal) → Accepts words old.files a c s →
+    RefusesIn r a.settings.kind a.source old new → ⊥
+not_refused_in words old new a c s r takes (inl (once, refuses)) = netlist_not_refused words old.files a c s r takes refuses
+not_refused_in words old new a c s r takes (inr (d, says, twice, refuses)) =
+    let same = accepted_netlist words old.files a c d s takes says in
+    spec_not_refused words old.files a c s r takes (subst (λ (x : Circuit). RefusesSpec a.settings.kind x (spec_told old.files a.source) r) same refuses)
+
+not_refused : (words : List (List ℕ)) (old new : ShelfSeen) (a : PlainAsked) (c : Circuit) (s : Specification) (r : Refusal) → Accepts words old.files a c s →
     IsRefused words old new r → ⊥
-not_refused words old new opts c s r takes (inl (refusal, none, never, is)) = let named = takes.named in absurd (cc)
-not_refused words old new opts c s r takes (inr (names, named, inl (once, refuses))) =
-    netlist_not_refused words old.files opts c s names r takes named refuses
-not_refused words old new opts c s r takes (inr (names, named, inr (d, says, twice, refuses))) =
-    let same = accepted_netlist words old.files opts c d s names takes named says in
-    let of_kind = subst (λ (j : Settings). RefusesSpec old.files names.spec j.kind d r) (same_settings words old.files opts c s names takes named) refuses in
-    spec_not_refused words old.files opts c s names r takes named (subst (λ (x : Circuit). RefusesSpec old.files names.spec opts.kind x r) same of_kind)
+not_refused words old new a c s r takes (inl (is, never)) = let both : Ok a ≡ Err r = sym takes.asks ∙ is in absurd (cc)
+not_refused words old new a c s r takes (inr (b, other, refuses)) =
+    not_refused_in words old new a c s r takes (subst (λ (x : PlainAsked). RefusesIn r x.settings.kind x.source old new) (same_asked words a b takes.asks other) refuses)
 
--- the circuit and the specification that were loaded are those that are taken
-taken_specification : (words : List (List ℕ)) (old new : ShelfSeen) (opts : Settings) (c : Circuit) (s t : Specification) → Accepts words old.files opts c s →
-    IsTaken words old new opts c t → t ≡ s
-taken_specification words old new opts c s t takes taken =
-    let says = accepted_spec words old.files opts c s taken.names taken.spec.0 takes taken.named taken.spec.1 in
-    let both : Ok t ≡ Ok s = sym taken.spec.2 ∙ says in cc
+-- the specification that was loaded is the one that is taken
+taken_specification : (words : List (List ℕ)) (old new : ShelfSeen) (a : PlainAsked) (c : Circuit) (s t : Specification) → Accepts words old.files a c s →
+    TakesTexts a.settings.kind a.source old new c t → t ≡ s
+taken_specification words old new a c s t takes taken =
+    let (bytes, is, reads) = taken.spec in
+    let both : Ok t ≡ Ok s = sym reads ∙ accepted_spec words old.files a c s bytes takes is in cc
 
 -- ---- the answers
 no_limit : (k : KindName) (cells : ℕ) (c : Circuit) (s : Specification) (check : Check) (verdict : Verdict) → MeetsNoLimit k cells c s check → IsVerdictOf k cells c s check verdict → verdict ≡ answer k c s check
@@ -151,19 +166,22 @@ answer_all : (opts : Settings) (c : Circuit) (s : Specification) (verdicts : Lis
 answer_all opts c s verdicts reported = λ place check verdict is there free. reported_answer opts.kind opts.cells c s place check verdict is free (reported.each place verdict there)
 
 -- a text of the specification that is taken is the report of its checks
-accepted_report : (words : List (List ℕ)) (old new : ShelfSeen) (opts : Settings) (c : Circuit) (s : Specification) (text : List ℕ) (status : Status) →
-    Accepts words old.files opts c s → IsOutput words old new text status →
-    (verdicts : List Verdict) × AreReported opts.kind opts.cells c s verdicts × IsReport c s verdicts text status
-accepted_report words old new opts c s text status takes (inl (r, refused, line)) = absurd (not_refused words old new opts c s r takes refused)
-accepted_report words old new opts c s text status takes (inr (j, d, t, verdicts, taken, reported, report)) =
-    let kind = sym taken.settings ∙ same_settings words old.files opts c s taken.names takes taken.named in
-    let circuit = accepted_netlist words old.files opts c d s taken.names takes taken.named taken.netlist in
-    let of_kind = subst (λ (i : Settings). IsTaken words old new i d t) kind taken in
-    let spec = taken_specification words old new opts c s t takes (subst (λ (x : Circuit). IsTaken words old new opts x t) circuit of_kind) in (
+accepted_report : (words : List (List ℕ)) (old new : ShelfSeen) (a : PlainAsked) (c : Circuit) (s : Specification) (text : List ℕ) (status : Status) →
+    Accepts words old.files a c s → IsOutput words old new text status →
+    (verdicts : List Verdict) × AreReported a.settings.kind a.settings.cells c s verdicts × IsReport a.source c s verdicts text status
+accepted_report words old new a c s text status takes (inl (r, refused, line)) = absurd (not_refused words old new a c s r takes refused)
+accepted_report words old new a c s text status takes (inr (b, d, t, verdicts, taken, reported, report)) =
+    let asked = same_asked words a b takes.asks taken.asks in
+    let texts = subst (λ (x : PlainAsked). TakesTexts x.settings.kind x.source old new d t) asked taken.texts in
+    let circuit = accepted_netlist words old.files a c d s takes texts.netlist in
+    let spec = taken_specification words old new a c s t takes (subst (λ (x : Circuit). TakesTexts a.settings.kind a.source old new x t) circuit texts) in (
       verdicts,
-      subst (λ (x : Specification). AreReported opts.kind opts.cells c x verdicts) spec
-          (subst (λ (x : Circuit). AreReported opts.kind opts.cells x t verdicts) circuit (subst (λ (i : Settings). AreReported i.kind i.cells d t verdicts) kind reported)),
-      subst (λ (x : Specification). IsReport c x verdicts text status) spec (subst (λ (x : Circuit). IsReport x t verdicts text status) circuit report),
+      subst (λ (x : Specification). AreReported a.settings.kind a.settings.cells c x verdicts) spec
+          (subst (λ (x : Circuit). AreReported a.settings.kind a.settings.cells x t verdicts) circuit
+          (subst (λ (x : PlainAsked). AreReported x.settings.kind x.settings.cells d t verdicts) asked reported)),
+      subst (λ (x : Specification). IsReport a.source c x verdicts text status) spec
+          (subst (λ (x : Circuit). IsReport a.source x t verdicts text status) circuit
+          (subst (λ (x : PlainAsked). IsReport x.source d t verdicts text status) asked report)),
     )
 
 -- ---- the status of a text
@@ -174,31 +192,31 @@ if_written false false = refl
 
 output_is_written : (words : List (List ℕ)) (old new : ShelfSeen) (text : List ℕ) (status : Status) → IsOutput words old new text status → is_written status ≡ true
 output_is_written words old new text status (inl (r, refused, line)) = ap is_written line.status_is
-output_is_written words old new text status (inr (opts, c, s, verdicts, taken, reported, report)) =
+output_is_written words old new text status (inr (a, c, s, verdicts, taken, reported, report)) =
     ap is_written report.status_is ∙ if_written (list_any is_limit verdicts) (list_any is_different verdicts)
 
 fault_not_written : (status : Status) → is_written status ≡ true → (fault : Status) → is_written fault ≡ false → status ≡ fault → ⊥
 fault_not_written status is fault not same = let both : true ≡ false = sym is ∙ ap is_written same ∙ not in cc
 
-report_where_written : (opts : Settings) (c : Circuit) (s : Specification) (old new : Outside) (status : Status) → is_written status ≡ true →
-    WritesReport opts c s old.sink new.sink status → GivesReport opts c s old new status
-report_where_written opts c s old new Done is writes = writes
-report_where_written opts c s old new Differs is writes = writes
-report_where_written opts c s old new Refused is writes = writes
-report_where_written opts c s old new Limited is writes = writes
-report_where_written opts c s old new ReadFault is writes = absurd (cc)
-report_where_written opts c s old new WriteFault is writes = absurd (cc)
-report_where_written opts c s old new NoMemory is writes = absurd (cc)
+report_where_written : (a : PlainAsked) (c : Circuit) (s : Specification) (old new : Outside) (status : Status) → is_written status ≡ true →
+    WritesReport a c s old.sink new.sink status → GivesReport a c s old new status
+report_where_written a c s old new Done is writes = writes
+report_where_written a c s old new Differs is writes = writes
+report_where_written a c s old new Refused is writes = writes
+report_where_written a c s old new Limited is writes = writes
+report_where_written a c s old new ReadFault is writes = absurd (cc)
+report_where_written a c s old new WriteFault is writes = absurd (cc)
+report_where_written a c s old new NoMemory is writes = absurd (cc)
 
-gives_report : (words : List (List ℕ)) (old new : Outside) (opts : Settings) (c : Circuit) (s : Specification) (text : List ℕ) (status : Status) →
-    Accepts words old.shelf.files opts c s → IsOutput words old.shelf new.shelf text status → Appends old.sink.written new.sink.written text → GivesReport opts c s old new status
-gives_report words old new opts c s text status takes output appended =
-    let (verdicts, reported, report) = accepted_report words old.shelf new.shelf opts c s text status takes output in
-    report_where_written opts c s old new status (output_is_written words old.shelf new.shelf text status output)
+gives_report : (words : List (List ℕ)) (old new : Outside) (a : PlainAsked) (c : Circuit) (s : Specification) (text : List ℕ) (status : Status) →
+    Accepts words old.shelf.files a c s → IsOutput words old.shelf new.shelf text status → Appends old.sink.written new.sink.written text → GivesReport a c s old new status
+gives_report words old new a c s text status takes output appended =
+    let (verdicts, reported, report) = accepted_report words old.shelf new.shelf a c s text status takes output in
+    report_where_written a c s old new status (output_is_written words old.shelf new.shelf text status output)
     (record {
       verdicts = verdicts;
       reported = reported;
-      answers = answer_all opts c s verdicts reported;
+      answers = answer_all a.settings c s verdicts reported;
       text = text;
       report = report;
       appended = appended;
@@ -221,9 +239,8 @@ text_written words old new text status files read output appended faults =
         | inl same ↦ absurd (fault_not_written status is ReadFault refl same)
         | inr same ↦ absurd (fault_not_written status is NoMemory refl same)
       ];
-      answered = λ opts c s takes. gives_report words old new opts c s text status takes output appended;
-      absent = λ names named lacks. absurd
-          (not_absent words old.shelf new.shelf names (output_wants words old.shelf new.shelf text status output) named lacks);
+      answered = λ a c s takes. gives_report words old new a c s text status takes output appended;
+      absent = λ a asks lacks. absurd (present words old.shelf new.shelf a text status output asks lacks);
     }
 
 rose_of_raised : (before now : ℕ) → now ≡ raised before → Rose before now
@@ -242,9 +259,8 @@ text_cut words old new text status files read output appended fault =
       no_read_fault = λ _. read;
       no_write_fault = λ is. absurd (is refl);
       nothing = λ either. elim either as (λ _. new.sink.written ≡ old.sink.written) [ inl same ↦ absurd (cc) | inr same ↦ absurd (cc) ];
-      answered = λ opts c s takes. rose_of_raised old.sink.faults new.sink.faults fault;
-      absent = λ names named lacks. absurd
-          (not_absent words old.shelf new.shelf names (output_wants words old.shelf new.shelf text status output) named lacks);
+      answered = λ a c s takes. rose_of_raised old.sink.faults new.sink.faults fault;
+      absent = λ a asks lacks. absurd (present words old.shelf new.shelf a text status output asks lacks);
     }
 
 pub wanted_memory : (words : List (List ℕ)) (old new : Outside) → new.shelf.files ≡ old.shelf.files → new.shelf.faults ≡ old.shelf.faults →
@@ -259,27 +275,26 @@ wanted_memory words old new files read wants sink =
       no_read_fault = λ _. read;
       no_write_fault = λ _. ap (λ s. s.faults) sink;
       nothing = λ _. ap (λ s. s.written) sink;
-      answered = λ opts c s takes. tt;
-      absent = λ names named lacks. absurd (not_absent words old.shelf new.shelf names wants named lacks);
+      answered = λ a c s takes. tt;
+      absent = λ a asks lacks. inr (refl, only_at_words words old.shelf new.shelf a wants asks lacks);
     }
 
-held_is_there : (files : Files) (name text : List ℕ) → Holds files name text → Lacks files name → ⊥
-held_is_there files name text holds lacks = let both : Some (Some text) ≡ Some None = sym holds ∙ lacks in cc
-
-unread_rose : (old new : ShelfSeen) (name text : List ℕ) → Holds old.files name text → IsUnread old new name → Rose old.faults new.faults
-unread_rose old new name text holds (inl is) = rose_of_raised old.faults new.faults is
-unread_rose old new name text holds (inr (lacks, same)) = absurd (held_is_there old.files name text holds lacks)
+unread_rose : (old new : ShelfSeen) (text : Told) (bytes : List ℕ) → text ≡ Some (Some bytes) → IsUnread old new text → Rose old.faults new.faults
+unread_rose old new text bytes holds (inl is) = rose_of_raised old.faults new.faults is
+unread_rose old new text bytes holds (inr (lacks, same)) = absurd (let both : Some (Some bytes) ≡ Some None = sym holds ∙ lacks in cc)
 
 -- where both files are there, the fault was counted
-fault_counted : (words : List (List ℕ)) (old new : ShelfSeen) (opts : Settings) (c : Circuit) (s : Specification) → Accepts words old.files opts c s →
+fault_counted_in : (words : List (List ℕ)) (old new : ShelfSeen) (a : PlainAsked) (c : Circuit) (s : Specification) → Accepts words old.files a c s →
+    FailsIn a.source old new → Rose old.faults new.faults
+fault_counted_in words old new a c s takes (in_files, inl (once, unread)) =
+    unread_rose old new (netlist_told old.files a.source) takes.netlist takes.netlist_is unread
+fault_counted_in words old new a c s takes (in_files, inr (d, says, twice, unread)) =
+    unread_rose old new (spec_told old.files a.source) takes.spec takes.spec_is unread
+
+fault_counted : (words : List (List ℕ)) (old new : ShelfSeen) (a : PlainAsked) (c : Circuit) (s : Specification) → Accepts words old.files a c s →
     FailsToRead words old new → Rose old.faults new.faults
-fault_counted words old new opts c s takes (inl (refusal, none, never, nothing)) = absurd nothing
-fault_counted words old new opts c s takes (inr (names, named, inl (once, unread))) =
-    let same = same_names words names takes.names named takes.named in
-    unread_rose old new takes.names.netlist takes.netlist_text takes.netlist (subst (λ (n : Names). IsUnread old new n.netlist) same unread)
-fault_counted words old new opts c s takes (inr (names, named, inr (d, says, twice, unread))) =
-    let same = same_names words names takes.names named takes.named in
-    unread_rose old new takes.names.spec takes.spec_text takes.spec (subst (λ (n : Names). IsUnread old new n.spec) same unread)
+fault_counted words old new a c s takes (b, other, fails) =
+    fault_counted_in words old new a c s takes (subst (λ (x : PlainAsked). FailsIn x.source old new) (same_asked words a b takes.asks other) fails)
 
 pub failed_to_read : (words : List (List ℕ)) (old new : Outside) → new.shelf.files ≡ old.shelf.files → FailsToRead words old.shelf new.shelf →
     new.sink ≡ old.sink → IsRun words old new ReadFault
@@ -293,8 +308,8 @@ failed_to_read words old new files fails sink =
       no_read_fault = λ is. absurd (is refl);
       no_write_fault = λ _. ap (λ s. s.faults) sink;
       nothing = λ _. ap (λ s. s.written) sink;
-      answered = λ opts c s takes. fault_counted words old.shelf new.shelf opts c s takes fails;
-      absent = λ names named lacks. refl;
+      answered = λ a c s takes. fault_counted words old.shelf new.shelf a c s takes fails;
+      absent = λ a asks lacks. inl refl;
     }
 
 -- ---- a text that was put out, or was not made
@@ -316,13 +331,13 @@ refusal_run text_of status_of words old new r (Err e) answered files read refuse
     subst (λ (s : Status). IsRun words old new s) (sym none)
     (wanted_memory words old new files read (refused_wants words old.shelf new.shelf r refused) nothing)
 
-pub check_run : {X : Type 0} (text_of : X → List ℕ) (status_of : X → Status) (words : List (List ℕ)) (old new : Outside) (opts : Settings) (c : Circuit) (s : Specification) (made : Result X AllocError) (answered : Status) →
-    new.shelf.files ≡ old.shelf.files → new.shelf.faults ≡ old.shelf.faults → IsTaken words old.shelf new.shelf opts c s →
-    IfOk made (λ o. (verdicts : List Verdict) × AreReported opts.kind opts.cells c s verdicts × IsReport c s verdicts (text_of o) (status_of o)) →
+pub check_run : {X : Type 0} (text_of : X → List ℕ) (status_of : X → Status) (words : List (List ℕ)) (old new : Outside) (a : PlainAsked) (c : Circuit) (s : Specification) (made : Result X AllocError) (answered : Status) →
+    new.shelf.files ≡ old.shelf.files → new.shelf.faults ≡ old.shelf.faults → IsTaken words old.shelf new.shelf a c s →
+    IfOk made (λ o. (verdicts : List Verdict) × AreReported a.settings.kind a.settings.cells c s verdicts × IsReport a.source c s verdicts (text_of o) (status_of o)) →
     IfOk made (λ o. PutsText old.sink new.sink (text_of o) (status_of o) answered) →
     OnErr made (answered ≡ NoMemory) → OnErr made (new.sink ≡ old.sink) → IsRun words old new answered
-check_run text_of status_of words old new opts c s (Ok o) answered files read taken (verdicts, reported, report) puts none nothing =
-    text_put words old new (text_of o) (status_of o) answered files read (inr (opts, c, s, verdicts, taken, reported, report)) puts
-check_run text_of status_of words old new opts c s (Err e) answered files read taken line puts none nothing =
+check_run text_of status_of words old new a c s (Ok o) answered files read taken (verdicts, reported, report) puts none nothing =
+    text_put words old new (text_of o) (status_of o) answered files read (inr (a, c, s, verdicts, taken, reported, report)) puts
+check_run text_of status_of words old new a c s (Err e) answered files read taken line puts none nothing =
     subst (λ (x : Status). IsRun words old new x) (sym none)
-    (wanted_memory words old new files read (taken_wants words old.shelf new.shelf opts c s taken) nothing)
+    (wanted_memory words old new files read (taken_wants words old.shelf new.shelf a c s taken) nothing)

@@ -1,4 +1,4 @@
--- What the two files say, and why one is refused.
+-- What the two texts say, and why one is refused.
 use Rattle.std.specs.Prelude.{◌≡◌, ◌⊎◌, ℕ, ◌≤◌, List, length, codes, Option, Some, None, Ok, Err, if◌then◌else◌, refl}
 use Rattle.std.specs.Str.{bytes_eq}
 use Rattle.std.proofs.Common.{inr, lit≤}
@@ -15,53 +15,51 @@ use Rattle.spec_grammar.specs.declared.fault.SpecFault.{SpecFault}
 use Rattle.spec_lang.specs.Specification.{Specification, half_adder}
 use Rattle.word_base.specs.declared.kind_name.KindName.{KindName}
 use Rattle.word_base.specs.declared.kind_name.KindName.TheVariants.{Hdd}
-use Rattle.outside.specs.Shelf.{told, Holds, IsLonger, IsWhole}
+use Rattle.outside.specs.Shelf.{IsLonger, IsWhole}
 use Rattle.report.specs.declared.refusal.Refusal.{Refusal}
 use Rattle.report.specs.declared.refusal.Refusal.TheVariants.{NetlistTooLong, Netlist, SpecTooLong, Spec}
 use Rattle.texts.specs.declared.limits.TheConstants.{MOST_BYTES}
 use Rattle.check_run.specs.Outside.{Files}
-use Rattle.settings.specs.declared.command.Settings.{Settings}
-use Rattle.check_run.specs.Words.{Names, by_hdd, check_n_s, n_and_s, names_of}
+use Rattle.check_run.specs.Sources.{Told, netlist_told, spec_told}
+use Rattle.check_run.specs.Words.{PlainAsked, asked_of, check_n_s, n_and_s_by_hdd}
 
--- these bytes are the file of this name, where the shelf tells its files, and they are not too many
-pub record IsText (files : Files) (name bytes : List ℕ) : Type 0 where
-  pub whole : IsWhole (told files name) bytes
+-- these bytes are the text, where it is told, and they are not too many
+pub record IsText (text : Told) (bytes : List ℕ) : Type 0 where
+  pub whole : IsWhole text bytes
   pub within : length bytes ≤ MOST_BYTES
 
--- the file says this circuit
-abbrev pub SaysNetlist : Files → List ℕ → Circuit → Type 0
-SaysNetlist files name c = (text : List ℕ) × IsText files name text × (bench.reading text ≡ Ok c)
+-- the text says this circuit
+abbrev pub SaysNetlist : Told → Circuit → Type 0
+SaysNetlist text c = (bytes : List ℕ) × IsText text bytes × (bench.reading bytes ≡ Ok c)
 
--- the file says this specification over the circuit
-abbrev pub SaysSpec : Files → List ℕ → KindName → Circuit → Specification → Type 0
-SaysSpec files name k c s = (text : List ℕ) × IsText files name text × (grammar.reading c k text ≡ Ok s)
+-- the text says this specification over the circuit
+abbrev pub SaysSpec : KindName → Circuit → Told → Specification → Type 0
+SaysSpec k c text s = (bytes : List ℕ) × IsText text bytes × (grammar.reading c k bytes ≡ Ok s)
 
--- the netlist's file is refused: it is too long, or has a fault
-abbrev pub RefusesNetlist : Files → List ℕ → Refusal → Type 0
-RefusesNetlist files name refusal =
-    (refusal ≡ NetlistTooLong) × IsLonger (told files name) MOST_BYTES
-    ⊎ ((text : List ℕ) × (f : BenchFault) × IsText files name text × (bench.reading text ≡ Err f) × (refusal ≡ Netlist f))
+-- the netlist's text is refused: it is too long, or has a fault
+abbrev pub RefusesNetlist : Told → Refusal → Type 0
+RefusesNetlist text refusal =
+    (refusal ≡ NetlistTooLong) × IsLonger text MOST_BYTES
+    ⊎ ((bytes : List ℕ) × (f : BenchFault) × IsText text bytes × (bench.reading bytes ≡ Err f) × (refusal ≡ Netlist f))
 
--- the specification's file is refused over the circuit: it is too long, or has a fault
-abbrev pub RefusesSpec : Files → List ℕ → KindName → Circuit → Refusal → Type 0
-RefusesSpec files name k c refusal =
-    (refusal ≡ SpecTooLong) × IsLonger (told files name) MOST_BYTES
-    ⊎ ((text : List ℕ) × (f : SpecFault) × IsText files name text × (grammar.reading c k text ≡ Err f) × (refusal ≡ Spec f))
+-- the specification's text is refused over the circuit: it is too long, or has a fault
+abbrev pub RefusesSpec : KindName → Circuit → Told → Refusal → Type 0
+RefusesSpec k c text refusal =
+    (refusal ≡ SpecTooLong) × IsLonger text MOST_BYTES
+    ⊎ ((bytes : List ℕ) × (f : SpecFault) × IsText text bytes × (grammar.reading c k bytes ≡ Err f) × (refusal ≡ Spec f))
 
--- The words name settings and two files, the shelf tells both files, and both are taken: the netlist reads as the circuit, and
--- the specification's text says the specification
-pub record Accepts (words : List (List ℕ)) (files : Files) (x : Settings) (c : Circuit) (s : Specification) : Type 0 where
-  pub names : Names
-  pub named : names_of words ≡ Ok names
-  pub settings : names.settings ≡ x
-  pub netlist_text : List ℕ
-  pub netlist : Holds files names.netlist netlist_text
-  pub netlist_within : length netlist_text ≤ MOST_BYTES
-  pub reads : bench.reading netlist_text ≡ Ok c
-  pub spec_text : List ℕ
-  pub spec : Holds files names.spec spec_text
-  pub spec_within : length spec_text ≤ MOST_BYTES
-  pub says : grammar.reading c x.kind spec_text ≡ Ok s
+-- The words ask for this, both texts are told, and both are taken: the netlist reads as the circuit, and the specification's
+-- text says the specification
+pub record Accepts (words : List (List ℕ)) (files : Files) (a : PlainAsked) (c : Circuit) (s : Specification) : Type 0 where
+  pub asks : asked_of words ≡ Ok a
+  pub netlist : List ℕ
+  pub netlist_is : netlist_told files a.source ≡ Some (Some netlist)
+  pub netlist_within : length netlist ≤ MOST_BYTES
+  pub reads : bench.reading netlist ≡ Ok c
+  pub spec : List ℕ
+  pub spec_is : spec_told files a.source ≡ Some (Some spec)
+  pub spec_within : length spec ≤ MOST_BYTES
+  pub says : grammar.reading c a.settings.kind spec ≡ Ok s
 
 -- the half adder's two files
 abbrev pub half_text : List ℕ
@@ -75,27 +73,25 @@ abbrev pub two_files : List ℕ → Option (List ℕ) → Files
 two_files netlist spec =
     Some (λ name. if bytes_eq name (codes "n") then Some netlist else (if bytes_eq name (codes "s") then spec else None))
 
-half-netlist : SaysNetlist (two_files half_text None) (codes "n") half
+half-netlist : SaysNetlist (Some (Some half_text)) half
 half-netlist = (half_text, record { whole = refl; within = lit≤ tt }, refl)
 
-looped-refused : RefusesNetlist (two_files (codes "INPUT(a)\nx = AND(x, a)\n") None) (codes "n") (Netlist (netlist_faults.fault 2 Cycle))
+looped-refused : RefusesNetlist (Some (Some (codes "INPUT(a)\nx = AND(x, a)\n"))) (Netlist (netlist_faults.fault 2 Cycle))
 looped-refused = inr (codes "INPUT(a)\nx = AND(x, a)\n", netlist_faults.fault 2 Cycle, record { whole = refl; within = lit≤ tt }, refl, refl)
 
 -- a check of a word that no line defines
-wordless_refused : RefusesSpec (two_files half_text (Some (codes "check a == 0\n"))) (codes "s") Hdd half (Spec (fault 1 UnknownWord))
+wordless_refused : RefusesSpec Hdd half (Some (Some (codes "check a == 0\n"))) (Spec (fault 1 UnknownWord))
 wordless_refused = inr (codes "check a == 0\n", fault 1 UnknownWord, record { whole = refl; within = lit≤ tt }, refl, refl)
 
-half-accepted : Accepts check_n_s (two_files half_text (Some half_spec)) by_hdd half half_adder
+half-accepted : Accepts check_n_s (two_files half_text (Some half_spec)) n_and_s_by_hdd half half_adder
 half-accepted = record {
-  names = n_and_s;
-  named = refl;
-  settings = refl;
-  netlist_text = half_text;
-  netlist = refl;
+  asks = refl;
+  netlist = half_text;
+  netlist_is = refl;
   netlist_within = lit≤ tt;
   reads = refl;
-  spec_text = half_spec;
-  spec = refl;
+  spec = half_spec;
+  spec_is = refl;
   spec_within = lit≤ tt;
   says = refl;
 }

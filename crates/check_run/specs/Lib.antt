@@ -1,7 +1,8 @@
--- What `run` promises stands in `Run`. It is read after `Words`, `Outside`, `Files`, `Reading`, `Verdicts` and `Statuses`.
+-- What `run` promises stands in `Run`. It is read after `Outside`, `Sources`, `Words`, `Files`, `Reading`, `Verdicts` and `Statuses`.
 -- `Loading` and `Deciding` serve private functions alone.
-pub mod Words
 pub mod Outside
+pub mod Sources
+pub mod Words
 pub mod Files
 pub mod Reading
 pub mod Verdicts

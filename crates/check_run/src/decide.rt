@@ -2,6 +2,7 @@ ghost use Rattle.std.specs.Prelude.{◌≡◌, ◌<◌, ◌≤◌, length, true,
 ghost use Rattle.diagram.specs.View.{View};
 ghost use Rattle.check_run.specs.Deciding.{verdict_at, verdict_of_limit, HasBuilt};
 ghost use Rattle.check_run.specs.Verdicts.{AreReported, IsReported};
+ghost use Rattle.check_run.specs.Words.{is_built};
 ghost use Rattle.cone_builder.specs.Sides.{AreSides};
 ghost use Rattle.kind_laws.specs.Plain.{plain};
 ghost use Rattle.settings.specs.Limits.{AreWithin};
@@ -19,6 +20,7 @@ use hdd::Hdd;
 use k_star_bmd::KStarBmd;
 use kind_laws::{Edge, Kind};
 use netlist::Netlist;
+use outside::Gate;
 use record_store::SoloStore;
 use settings::Settings;
 use spec_lang::{EvalError, Spec};
@@ -140,7 +142,7 @@ fn decide_by<K: Kind>(
     }
 }
 
-/// What is answered to a check, with these settings.
+/// What is answered to a check, by diagrams of the kind of the settings.
 fn decide(
     alloc: Global,
     settings: Settings,
@@ -163,20 +165,44 @@ fn decide(
     }
 }
 
-/// What is answered to each check, with these settings. Each check has a builder and a store of its own.
-pub(crate) fn decide_all(
+/// What is answered to the check of this number, counted from 0, with a builder and a store of its own. The
+/// specification was read for the kind, and the settings are those of a run that is built: forward, with one worker.
+/// The gate is for runs of several workers.
+///
+/// `Err` is want of memory.
+pub fn check_one<G: Gate>(
     alloc: Global,
-    settings: Settings,
     netlist: &Netlist,
     spec: &Spec,
+    check: u32,
+    settings: Settings,
+    _gate: &G,
+) -> Result<Verdict, AllocError>
+    requires read_for { IsReadFor netlist.now settings.kind spec.now }
+    requires check { check < length spec.now.checks }
+    requires limits { AreWithin settings }
+    requires built { is_built settings ≡ true }
+    ensures { IfOk result (λ verdict. IsReported settings.kind settings.cells netlist.now spec.now check verdict) }
+{
+    decide(alloc, settings, netlist, spec, check)
+}
+
+/// What is answered to each check, with these settings.
+pub(crate) fn decide_all<G: Gate>(
+    alloc: Global,
+    netlist: &Netlist,
+    spec: &Spec,
+    settings: Settings,
+    gate: &G,
 ) -> Result<Vec<Verdict>, AllocError>
     requires read_for { IsReadFor netlist.now settings.kind spec.now }
     requires limits { AreWithin settings }
+    requires built { is_built settings ≡ true }
     ensures { IfOk result (λ verdicts. AreReported settings.kind settings.cells netlist.now spec.now verdicts.items) }
 {
     let mut verdicts = Vec::new(alloc);
     for check in 0..spec.checks() {
-        verdicts.push(decide(alloc, settings, netlist, spec, check)?)?;
+        verdicts.push(check_one(alloc, netlist, spec, check, settings, gate)?)?;
     }
     Ok(verdicts)
 }

@@ -1,11 +1,13 @@
 //! The run: from the words of a command to the report.
 //!
-//! `run` reads the words, fetches and reads both files, decides the check, and puts out its line.
+//! `run` reads the words, fetches or makes both texts and reads them, decides all checks, and puts out their lines.
+//! `check_one` decides one check.
 //!
 //! What it promises is one definition, `IsRun` in `specs/Run`. `specs/Lib` says in which order the definitions
 //! are read.
 #![tactic(auto)]
 
+mod asked;
 mod command;
 mod decide;
 mod load;
@@ -17,4 +19,6 @@ mod words;
 
 pub use checks::{Method, Verdict};
 pub use command::run;
+pub use decide::check_one;
+pub use settings::Settings;
 pub use status::Status;

@@ -4,6 +4,7 @@ use bench_reader::BenchError;
 use outside::FetchError;
 use report::Refusal;
 use spec_grammar::SpecError;
+use std::alloc::AllocError;
 
 /// Why nothing is decided.
 #[derive(Debug, Drop)]
@@ -28,6 +29,16 @@ impl Stop {
             FetchError::TooLong => Stop::Refused(too_long),
             FetchError::Memory => Stop::Memory,
         }
+    }
+}
+
+impl From<AllocError> for Stop {
+    ghost use Rattle.check_run.specs.declared.stop.Stop.TheVariants as variants;
+
+    ghost from_gives = { λ error stop. stop ≡ variants.Memory };
+
+    fn from(_error: AllocError) -> Stop {
+        Stop::Memory
     }
 }
 

@@ -2,6 +2,7 @@ mod decided;
 mod faults;
 mod language;
 mod refused;
+mod words;
 
 use super::*;
 use outside::{MemoryShelf, MemorySink, OpenGate};

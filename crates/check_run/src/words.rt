@@ -1,19 +1,17 @@
-ghost use Rattle.std.specs.Prelude.{◌≡◌, IfErr, IfOk, Err, Ok};
+ghost use Rattle.std.specs.Prelude.{◌≡◌, IfErr, IfOk, Ok, true};
 ghost use Rattle.settings.specs.Limits.{AreWithin};
 ghost use Rattle.settings.specs.Words.{texts};
-ghost use Rattle.check_run.specs.Words.{is_built, names_of};
+ghost use Rattle.check_run.specs.Loading.{HasSize, StopsAtWords};
+ghost use Rattle.check_run.specs.Sources.{plain_source};
+ghost use Rattle.check_run.specs.Words.{asked_of, is_built, plain_asked};
 
+use crate::asked::{Asked, Source};
+use crate::stop::Stop;
 use checks::Method;
+use command_line::command_of;
 use report::Refusal;
-use settings::{Command, Settings, command_of};
-
-/// What a check is asked with: its settings, and the names of the netlist's and the specification's file.
-#[derive(Clone, Copy)]
-pub(crate) struct Names<'a> {
-    pub settings: Settings,
-    pub netlist: &'a str,
-    pub spec: &'a str,
-}
+use settings::{Command, Settings};
+use std::alloc::Global;
 
 fn is_built(settings: Settings) -> bool
     ensures { result ≡ is_built settings }
@@ -25,30 +23,26 @@ fn is_built(settings: Settings) -> bool
 }
 
 /// What the words ask for, or why they are refused.
-pub(crate) fn names_in<'a>(words: &[&'a str]) -> Result<Names<'a>, Refusal>
-    ensures named { IfOk result (λ names. names_of (texts words.now)
-        ≡ Ok (record { settings = names.settings; netlist = names.netlist.now; spec = names.spec.now })) }
-    ensures refused { IfErr result (λ refusal. names_of (texts words.now) ≡ Err refusal) }
-    ensures limits { IfOk result (λ names. AreWithin names.settings) }
+pub(crate) fn asked<'a>(alloc: Global, words: &'a [&'a str]) -> Result<Asked<'a>, Stop>
+    ensures asked { IfOk result (λ asked. asked_of (texts words.entry.now) ≡ Ok (plain_asked asked)) }
+    ensures stops { IfErr result (StopsAtWords (texts words.entry.now)) }
+    ensures limits { IfOk result (λ asked. AreWithin asked.settings) }
+    ensures size { IfOk result (λ asked. HasSize (plain_source asked.source)) }
+    ensures built { IfOk result (λ asked. is_built asked.settings ≡ true) }
 {
-    match command_of(words) {
-        None => Err(Refusal::Usage),
-        Some(Command::Gen { .. }) => Err(Refusal::Words),
+    let (settings, source) = match command_of(alloc, words)? {
+        None => return Err(Stop::Refused(Refusal::Usage)),
         Some(
             Command::Check {
                 settings,
                 netlist,
                 spec,
             },
-        ) => {
-            if !is_built(settings) {
-                return Err(Refusal::Words);
-            }
-            Ok(Names {
-                settings,
-                netlist,
-                spec,
-            })
-        }
+        ) => (settings, Source::Files { netlist, spec }),
+        Some(Command::Gen { settings, size }) => (settings, Source::Multiplier { size }),
+    };
+    if !is_built(settings) {
+        return Err(Stop::Refused(Refusal::Words));
     }
+    Ok(Asked { settings, source })
 }

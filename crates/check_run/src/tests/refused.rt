@@ -50,8 +50,11 @@ fn words_are_refused(rt: HostRuntime) -> Result<(), Fail> {
     let words = ["check", "--method", "backward", "n", "s"];
     let answer = outcome(rt.alloc(), &words, &mut shelf, 1000, unbuilt)?;
     assert_eq!(rt; answer, (2, true), "backward");
-    let answer = outcome(rt.alloc(), &["gen", "2"], &mut shelf, 1000, unbuilt)?;
-    assert_eq!(rt; answer, (2, true), "a multiplier");
+    let words = ["gen", "--workers", "2", "3"];
+    let answer = outcome(rt.alloc(), &words, &mut shelf, 1000, unbuilt)?;
+    assert_eq!(rt; answer, (2, true), "two workers on a multiplier");
+    let answer = outcome(rt.alloc(), &["gen", "17"], &mut shelf, 1000, usage)?;
+    assert_eq!(rt; answer, (2, true), "17 bits");
     Ok(())
 }
 

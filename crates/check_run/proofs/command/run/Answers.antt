@@ -5,6 +5,7 @@ use Rattle.check_run.specs.declared.stop.Stop.{Stop}
 use Rattle.check_run.specs.Loading.{Loads}
 use Rattle.settings.specs.Words.{texts}
 use Rattle.check_run.specs.Outside.{seen, shelf_seen, sink_seen}
+use Rattle.check_run.specs.Words.{plain_asked}
 use Rattle.check_run.proofs.RunLaws.{check_run, failed_to_read, refusal_run, wanted_memory}
 use Rattle.check_run.proofs.command.run.Goals as goal
 
@@ -13,7 +14,7 @@ returns-in-Ok g c =
     check_run (λ (o : Outcome). string_bytes o.text) (λ o. o.status) (texts c.args.words.now)
     (seen (shelf_seen g.F.Shelf.files g.F.Shelf.fetches g.F.Shelf.faults c.args.shelf.now) (sink_seen g.O.Sink.written g.O.Sink.faults c.args.out.now))
     (seen (shelf_seen g.F.Shelf.files g.F.Shelf.fetches g.F.Shelf.faults c.load.new.shelf) (sink_seen g.O.Sink.written g.O.Sink.faults c.put.new.out))
-    c.in-Ok.settings c.in-Ok.netlist c.in-Ok.spec c.checked.result c.put.result c.in-Ok.ensures.files c.in-Ok.ensures.loads.1 c.in-Ok.ensures.loads.0 c.checked.ensures c.put.ensures.put
+    (plain_asked c.in-Ok.asked) c.in-Ok.netlist c.in-Ok.spec c.checked.result c.put.result c.in-Ok.ensures.files c.in-Ok.ensures.loads.1 c.in-Ok.ensures.loads.0 c.checked.ensures c.put.ensures.put
     c.put.ensures.not_made c.put.ensures.nothing
 
 pub returns-in-Err-Refused : goal.returns-in-Err-Refused
