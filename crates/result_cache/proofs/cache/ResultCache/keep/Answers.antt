@@ -1,12 +1,10 @@
-use Rattle.std.proofs.Common.{◌≡◌, [], ◌∷◌, ◌++◌, ℕ, ◌+◌, ◌<◌, ◌≤◌, ◌-◌, ◌^◌, length, get_or, set, min, bit_and, sym, subst, ap, ◌∙◌, arith, List}
-use Rattle.std.specs.List.{sum_by}
-use Rattle.std.specs.Vec.{vec_capacity, vec_len}
+use Rattle.std.proofs.Common.{◌≡◌, [], ◌∷◌, ◌++◌, ℕ, ◌+◌, ◌<◌, ◌≤◌, ◌-◌, ◌^◌, length, set, sym, subst, ap, ◌∙◌, arith}
+use Rattle.std.specs.Vec.{vec_capacity}
 use Rattle.result_cache.specs.Cache.{Places, kept}
 use Rattle.result_cache.specs.CacheInside.{IsSound, places}
 use Rattle.result_cache.specs.Place.{place_of}
-use Rattle.result_cache.specs.declared.cache.Entry.{Entry}
 use Rattle.result_cache.specs.declared.key.CacheKey.{CacheKey}
-use Rattle.result_cache.proofs.CacheLaws.{place_within, some_places, number_read, kept_taken, sound_taken, kept_new, sound_new, room_left}
+use Rattle.result_cache.proofs.CacheLaws.{place_within, some_places, number_read, kept_taken, kept_new, sound_new, room_left}
 use Rattle.result_cache.proofs.cache.ResultCache.keep.Goals as goal
 
 pub overflow_cast-len : goal.overflow_cast-len
