@@ -49,6 +49,20 @@ pub record IsRight (k : KindName) (v : View) (key : CacheKey) (value : List ℕ)
   pub second_good : IsEdge k v second
   pub is_result : IsResult operation k v first second result
 
+-- the edge is the result of each operation whose key it is
+abbrev pub IsFound : KindName → View → CacheKey → PlainEdge → Type 0
+IsFound k v key r = (o : Operation) (a b : PlainEdge) → IsKeyOf o k a b key → IsResult o k v a b r
+
+-- the edge is the result of an operation on two good edges, whose key it is
+pub record IsKept (k : KindName) (v : View) (key : CacheKey) (r : PlainEdge) : Type 0 where
+  pub operation : Operation
+  pub first : PlainEdge
+  pub second : PlainEdge
+  pub is_key : IsKeyOf operation k first second key
+  pub first_good : IsEdge k v first
+  pub second_good : IsEdge k v second
+  pub is_result : IsResult operation k v first second r
+
 -- all that the cache holds is right
 abbrev pub AreRight : KindName → View → Places → Type 0
 AreRight k v cache = (key : CacheKey) (value : List ℕ) → Holds cache key value → IsRight k v key value

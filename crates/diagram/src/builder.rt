@@ -6,15 +6,14 @@ ghost use Rattle.kind_laws.specs.Plain.{plain, constant_edge, answered};
 ghost use Rattle.record_store.specs.Interns.{Interns};
 ghost use Rattle.record_store.specs.StoreView.{find_in};
 ghost use Rattle.diagram.specs.Calls.{CanPart, skipped_high, ArePartsOf, CanJoin, IsJoin, IsVariable, variable_low, variable_high, KeepsGood};
-ghost use Rattle.diagram.specs.Remembered.{IsResult};
+ghost use Rattle.diagram.specs.Remembered.{IsFound, IsKept};
 ghost use Rattle.diagram.specs.View.{View, letter_at, StandsAt, IsEdge, top_of, Keeps, IsGood};
 
 use crate::limit::Limit;
-use crate::operation::Operation;
 use kind_laws::{Edge, Joined, Kind, level_of};
 use marks::Marks;
 use record_store::{Store, StoreFull};
-use result_cache::{MAX_LOG, ResultCache};
+use result_cache::{HashedKey, MAX_LOG, ResultCache};
 use std::alloc::Global;
 use std::marker::{Model, PhantomData};
 use word_base::{Decomp, Levels, Overflow, Weight};
@@ -160,25 +159,23 @@ impl<K: Kind, S: Store> Builder<K, S> {
         self.store.intern(body)
     }
 
-    /// What is remembered of an operation on two edges.
-    pub(crate) fn look_up(&self, operation: Operation, a: Edge<K>, b: Edge<K>) -> Option<Edge<K>>
-        ensures { IfSome result (λ r. IsResult operation K.NAME self.now (plain K.extra_of a) (plain K.extra_of b) (plain K.extra_of r)) }
+    /// What is remembered under a key.
+    pub(crate) fn look_up(&self, key: &HashedKey) -> Option<Edge<K>>
+        ensures { IfSome result (λ r. IsFound K.NAME self.now key.now (plain K.extra_of r)) }
     {
         let _store = &self.store;
-        match self.cache.look(&operation.key(a, b)) {
+        match self.cache.look(key) {
             Some(words) => Some(K::unpack(words)),
             None => None,
         }
     }
 
-    /// Remembers the result of an operation on two edges.
-    pub(crate) fn remember(&mut self, operation: Operation, a: Edge<K>, b: Edge<K>, answer: Edge<K>)
-        requires a_good { IsEdge K.NAME self.old (plain K.extra_of a) }
-        requires b_good { IsEdge K.NAME self.old (plain K.extra_of b) }
-        requires is_result { IsResult operation K.NAME self.old (plain K.extra_of a) (plain K.extra_of b) (plain K.extra_of answer) }
+    /// Remembers the result of the operation whose key it is.
+    pub(crate) fn remember(&mut self, key: HashedKey, answer: Edge<K>)
+        requires { IsKept K.NAME self.old key (plain K.extra_of answer) }
         ensures { self.new ≡ self.old }
     {
-        self.cache.keep(operation.key(a, b), K::pack(answer));
+        self.cache.keep(key, K::pack(answer));
     }
 
     /// The edge whose parts at a level are the two, which lie below it.

@@ -1,6 +1,7 @@
 //! Builders of word-level decision diagrams, over any kind, any letters and any store.
 #![tactic(auto)]
 
+mod at_once;
 mod below;
 mod builder;
 mod cofactor;
@@ -12,7 +13,6 @@ mod multiple;
 mod operation;
 mod parts;
 mod product;
-mod remembered;
 mod sum;
 #[cfg(test)]
 mod tests;

@@ -44,11 +44,15 @@ impl<K: Kind, S: Store> Builder<K, S> {
             (answered (plain K.extra_of) result) }
     {
         let constant = self.constant(factor);
-        if let Some(multiple) = self.known_product(constant, a) {
+        if let Some(multiple) = self.product_at_once(constant, a) {
+            return Ok(multiple);
+        }
+        let key = Operation::Product.key(constant, a);
+        if let Some(multiple) = self.look_up(&key) {
             return Ok(multiple);
         }
         let multiple = self.scale_anew(factor, a)?;
-        self.remember(Operation::Product, constant, a, multiple);
+        self.remember(key, multiple);
         Ok(multiple)
     }
 

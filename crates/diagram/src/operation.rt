@@ -3,7 +3,7 @@ ghost use Rattle.kind_laws.specs.Plain.{plain};
 ghost use Rattle.diagram.specs.Remembered.{number_of, IsKeyOf};
 
 use kind_laws::{Edge, Kind};
-use result_cache::CacheKey;
+use result_cache::{CacheKey, HashedKey};
 
 /// An operation whose results are remembered. A multiple is a product with a constant.
 #[derive(Clone, Copy, Debug, PartialEq, Eq)]
@@ -24,7 +24,14 @@ impl Operation {
     }
 
     /// The key of the operation on two edges, the same in either order.
-    pub(crate) fn key<K: Kind>(self, a: Edge<K>, b: Edge<K>) -> CacheKey
+    pub(crate) fn key<K: Kind>(self, a: Edge<K>, b: Edge<K>) -> HashedKey
+        ensures { IsKeyOf self K.NAME (plain K.extra_of a) (plain K.extra_of b) result }
+    {
+        self.ordered(a, b).hashed()
+    }
+
+    /// The words of the key, those of the lesser edge first.
+    fn ordered<K: Kind>(self, a: Edge<K>, b: Edge<K>) -> CacheKey
         ensures { IsKeyOf self K.NAME (plain K.extra_of a) (plain K.extra_of b) result }
     {
         let op = self.number();

@@ -64,11 +64,15 @@ impl<K: Kind, S: Store> Builder<K, S> {
         ensures product { IsOfBoth times (product_work self.old.letters) K.NAME self.old self.new
             (plain K.extra_of a) (plain K.extra_of b) (answered (plain K.extra_of) result) }
     {
-        if let Some(product) = self.known_product(a, b) {
+        if let Some(product) = self.product_at_once(a, b) {
+            return Ok(product);
+        }
+        let key = Operation::Product.key(a, b);
+        if let Some(product) = self.look_up(&key) {
             return Ok(product);
         }
         let product = self.mul_anew(a, b)?;
-        self.remember(Operation::Product, a, b, product);
+        self.remember(key, product);
         Ok(product)
     }
 

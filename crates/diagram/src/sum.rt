@@ -76,11 +76,15 @@ impl<K: Kind, S: Store> Builder<K, S> {
         ensures sum { IsOfBoth plus (sum_work walk) K.NAME self.old self.new (plain K.extra_of a) (plain K.extra_of b)
             (answered (plain K.extra_of) result) }
     {
-        if let Some(sum) = self.known_sum(a, b) {
+        if let Some(sum) = self.sum_at_once(a, b) {
+            return Ok(sum);
+        }
+        let key = Operation::Sum.key(a, b);
+        if let Some(sum) = self.look_up(&key) {
             return Ok(sum);
         }
         let sum = self.sum_anew(walk, a, b)?;
-        self.remember(Operation::Sum, a, b, sum);
+        self.remember(key, sum);
         Ok(sum)
     }
 

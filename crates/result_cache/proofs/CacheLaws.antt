@@ -1,18 +1,18 @@
 -- A cache as its places: at first, where a key is looked for, and after a value was kept.
-use Rattle.std.proofs.Common.{◌≡◌, ◌≢◌, ℕ, zero, suc, ◌+◌, ◌-◌, ◌*◌, ◌%◌, ◌<◌, ◌≤◌, ◌^◌, List, [], ◌∷◌, ◌++◌, length, get_or, set, map, min, bit_and, replicate, slice_get, Some, None, refl, sym, ap, subst, ◌∙◌, inl, inr, ⊎_elim, arith, get_or-set_same, get_or-set_other, length-set}
+use Rattle.std.proofs.Common.{◌≡◌, ◌≢◌, ℕ, zero, suc, ◌+◌, ◌-◌, ◌*◌, ◌<◌, ◌≤◌, ◌^◌, List, [], ◌∷◌, ◌++◌, length, get_or, set, map, min, replicate, slice_get, Some, None, refl, sym, ap, subst, ◌∙◌, inl, inr, arith, get_or-set_same, get_or-set_other, length-set}
 use Rattle.std.specs.Prelude.{Option, ◌⊎◌}
 use Rattle.std.proofs.Math.Nat.{mod-lt}
 use Rattle.std.proofs.lemmas.Bool.{cases_eq}
-use Rattle.std.proofs.lemmas.List.{length_push, length-replicate, get_or-replicate, map-set}
+use Rattle.std.proofs.lemmas.List.{length_push, length-replicate, map-set}
 use Rattle.std.proofs.lemmas.List.Folds.{sum_by-replicate}
-use Rattle.std.proofs.lemmas.List.Sums.{sum_by-set, sum_by-cons, sum_by-take-le}
+use Rattle.std.proofs.lemmas.List.Sums.{sum_by-set, sum_by-cons}
 use Rattle.std.proofs.lemmas.Nat.{pow_pos}
 use Rattle.std.proofs.lemmas.Option.{none-some, same_Some, slice_get-get_or, get_or_from_slice_get}
 use Rattle.std.specs.Int.{IsPowerOfTwo}
 use Rattle.std.specs.List.{sum_by}
 use Rattle.record_store.proofs.PushLaws.{slice_get_kept, slice_get_last}
 use Rattle.record_store.specs.Path.{hash_of}
-use Rattle.result_cache.specs.Cache.{Places, Holds, Looks, kept}
+use Rattle.result_cache.specs.Cache.{Places, Holds, kept}
 use Rattle.result_cache.specs.CacheInside.{place_at, places, IsSound}
 use Rattle.result_cache.specs.Place.{key_words, place_of}
 use Rattle.result_cache.specs.declared.key.CacheKey.{CacheKey}

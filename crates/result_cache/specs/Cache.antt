@@ -1,5 +1,5 @@
 -- What a cache of results means.
-use Rattle.std.specs.Prelude.{◌≡◌, ℕ, List, [], ◌∷◌, ◌++◌, length, set, replicate, slice_get, Option, Some, None, refl}
+use Rattle.std.specs.Prelude.{◌≡◌, ℕ, List, [], ◌∷◌, length, set, slice_get, Option, Some, None, refl}
 use Rattle.record_store.specs.Path.{mixed}
 use Rattle.result_cache.specs.Place.{place_of, sum_key}
 use Rattle.result_cache.specs.declared.key.CacheKey.{CacheKey}

@@ -1,5 +1,5 @@
 -- How the fields of a `ResultCache` are seen as its places, and what holds of them.
-use Rattle.std.specs.Prelude.{◌≡◌, ℕ, zero, suc, ◌≤◌, ◌<◌, ◌^◌, List, [], ◌∷◌, length, map, min, slice_get, slice_index, sum_by, Option, Some, None, refl}
+use Rattle.std.specs.Prelude.{◌≡◌, ℕ, zero, suc, ◌≤◌, ◌<◌, ◌^◌, List, [], ◌∷◌, length, map, min, slice_get, slice_index, sum_by, Option, None, refl}
 use Rattle.std.specs.Int.{IsPowerOfTwo}
 use Rattle.result_cache.specs.Cache.{Places}
 use Rattle.result_cache.specs.declared.cache.Entry.{Entry}

@@ -1,6 +1,6 @@
 -- At which place a key stands.
 use Rattle.std.specs.Prelude.{◌≡◌, ℕ, ◌^◌, List, [], ◌∷◌, ◌++◌, map, refl}
-use Rattle.record_store.specs.Path.{mixed, hash_of, start_of}
+use Rattle.record_store.specs.Path.{mixed, start_of}
 use Rattle.result_cache.specs.declared.key.CacheKey.{CacheKey}
 
 -- the operation, and the words of its operands

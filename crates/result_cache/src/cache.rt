@@ -1,7 +1,7 @@
 ghost use Rattle.std.specs.Prelude.{◌≡◌, ◌^◌, ◌≤◌, None, replicate, IfOk};
 ghost use Rattle.result_cache.specs.Cache.{Looks, kept};
 
-use crate::key::CacheKey;
+use crate::key::{CacheKey, HashedKey};
 use std::alloc::{AllocError, Global};
 use std::marker::Model;
 
@@ -49,7 +49,7 @@ impl ResultCache {
     }
 
     /// The value that was kept last for the key, where it is still at the key's place.
-    pub fn look(&self, key: &CacheKey) -> Option<[u64; 5]>
+    pub fn look(&self, key: &HashedKey) -> Option<[u64; 5]>
         ensures { Looks self.now key.now result }
     {
         let place = key.place(self.index.len());
@@ -58,7 +58,7 @@ impl ResultCache {
             return None;
         }
         let entry = &self.entries[number - 1];
-        if entry.key == *key {
+        if entry.key == *key.key() {
             Some(entry.value)
         } else {
             None
@@ -66,12 +66,15 @@ impl ResultCache {
     }
 
     /// Writes the value at the key's place. What stood there is lost.
-    pub fn keep(&mut self, key: CacheKey, value: [u64; 5])
+    pub fn keep(&mut self, key: HashedKey, value: [u64; 5])
         ensures { self.new ≡ kept self.old key value }
     {
         let place = key.place(self.index.len());
         let number = self.index[place] as usize;
-        let entry = Entry { key, value };
+        let entry = Entry {
+            key: *key.key(),
+            value,
+        };
         if number == 0 {
             if let Ok(()) = self.entries.push(entry) {
                 self.index[place] = self.entries.len() as u32;

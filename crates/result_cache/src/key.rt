@@ -3,6 +3,8 @@ ghost use Rattle.std.specs.Int.{IsPowerOfTwo};
 ghost use Rattle.record_store.specs.Path.{mixed, hash_of};
 ghost use Rattle.result_cache.specs.Place.{key_words, place_of};
 
+use std::marker::Model;
+
 /// An operation by its number, and the words of its two operands.
 #[derive(Clone, Copy, Debug, PartialEq, Eq)]
 pub struct CacheKey {
@@ -11,13 +13,50 @@ pub struct CacheKey {
     pub second: [u64; 5],
 }
 
-impl CacheKey {
+/// A key with its hash, which serves a look and what is kept after it.
+#[derive(Drop)]
+pub struct HashedKey {
+    key: CacheKey,
+    hash: u64,
+}
+
+impl Model for HashedKey {
+    ghost use Rattle.std.specs.Prelude.{◌≡◌};
+    ghost use Rattle.record_store.specs.Path.{hash_of};
+    ghost use Rattle.result_cache.specs.Place.{key_words};
+    ghost use Rattle.result_cache.specs.declared.key.CacheKey.{CacheKey as Key};
+
+    ghost Value = { Key };
+
+    ghost view = { λ k. k.key };
+
+    ghost invariant = { λ k. k.hash ≡ hash_of (key_words k.key) };
+}
+
+impl HashedKey {
     /// The place of the key among so many, whose number is a power of two, so that a mask takes the remainder.
     pub(crate) fn place(&self, places: usize) -> usize
         requires { IsPowerOfTwo places }
         ensures { result ≡ place_of self.now places }
     {
-        self.hash() as usize & (places - 1)
+        self.hash as usize & (places - 1)
+    }
+
+    /// The key itself.
+    pub(crate) fn key(&self) -> &CacheKey
+        ensures { result.now ≡ self.now }
+    {
+        &self.key
+    }
+}
+
+impl CacheKey {
+    /// The key with its hash.
+    pub fn hashed(self) -> HashedKey
+        ensures { result ≡ self }
+    {
+        let hash = self.hash();
+        HashedKey { key: self, hash }
     }
 
     /// The hash of the operation and the words of the operands.

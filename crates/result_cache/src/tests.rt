@@ -3,29 +3,28 @@ use std::process::Abort;
 use std::test::Fail;
 
 /// A key whose operands are two numbers.
-fn key(op: u8, first: u64, second: u64) -> CacheKey {
-    CacheKey {
+fn key(op: u8, first: u64, second: u64) -> HashedKey {
+    let key = CacheKey {
         op,
         first: [first, 0, 0, 0, 7],
         second: [second, 0, 0, 0, 9],
-    }
+    };
+    key.hashed()
 }
 
 #[test]
 fn what_is_kept_last_at_a_place_is_found(rt: HostRuntime) -> Result<(), Fail> {
     let mut cache = ResultCache::create(rt.alloc(), 0)?;
-    let first = key(1, 2, 3);
-    let second = key(1, 2, 4);
-    assert_eq!(rt; cache.look(&first), None);
-    cache.keep(first, [1, 2, 3, 4, 5]);
-    assert_eq!(rt; cache.look(&first), Some([1, 2, 3, 4, 5]));
-    assert_eq!(rt; cache.look(&second), None);
+    assert_eq!(rt; cache.look(&key(1, 2, 3)), None);
+    cache.keep(key(1, 2, 3), [1, 2, 3, 4, 5]);
+    assert_eq!(rt; cache.look(&key(1, 2, 3)), Some([1, 2, 3, 4, 5]));
+    assert_eq!(rt; cache.look(&key(1, 2, 4)), None);
     assert_eq!(rt; cache.look(&key(2, 2, 3)), None);
-    cache.keep(first, [6, 7, 8, 9, 10]);
-    assert_eq!(rt; cache.look(&first), Some([6, 7, 8, 9, 10]));
-    cache.keep(second, [0, 0, 0, 0, 1]);
-    assert_eq!(rt; cache.look(&first), None);
-    assert_eq!(rt; cache.look(&second), Some([0, 0, 0, 0, 1]));
+    cache.keep(key(1, 2, 3), [6, 7, 8, 9, 10]);
+    assert_eq!(rt; cache.look(&key(1, 2, 3)), Some([6, 7, 8, 9, 10]));
+    cache.keep(key(1, 2, 4), [0, 0, 0, 0, 1]);
+    assert_eq!(rt; cache.look(&key(1, 2, 3)), None);
+    assert_eq!(rt; cache.look(&key(1, 2, 4)), Some([0, 0, 0, 0, 1]));
     Ok(())
 }
 

@@ -8,6 +8,7 @@ use Rattle.kind_laws.specs.Plain.{PlainEdge, plain, constant_edge}
 use Rattle.diagram.specs.Calls.{CanPart, ArePartsOf, IsOfEach, PartLiesBelow}
 use Rattle.diagram.specs.View.{View, top_of}
 use Rattle.diagram.specs.declared.limit.Limit.TheVariants as limit
+use Rattle.diagram.specs.declared.operation.Operation.TheVariants.{Product}
 use Rattle.diagram.proofs.BothLaws.{constant_is, constant_answers_each}
 use Rattle.diagram.proofs.CallLaws.{same_keeps}
 use Rattle.diagram.proofs.EachLaws.{can_part_at, part_lies_below, each_of_parts, each_unfit, refused_each}
@@ -40,11 +41,32 @@ multiple_of-returns-in-Some-clause-multiple g t c =
     known_each g.K.Kind.NAME c.args.factor (scale_work c.args.factor) c.args.self.now (plain g.K.Kind.extra_of c.constant-constant.result) (plain g.K.Kind.extra_of c.args.a)
     (plain g.K.Kind.extra_of c.in-Some.multiple) c.constant-constant.ensures.edge c.in-Some.ensures
 
-pub multiple_of-remember-requires-clause-is_result : goal.multiple_of-remember-requires-clause-is_result
-multiple_of-remember-requires-clause-is_result g t c = λ lives bounds.
-    each_result g.K.Kind.NAME c.args.factor (scale_work c.args.factor) c.args.self.now c.scale_anew.new.self (plain g.K.Kind.extra_of c.constant-constant.result)
-    (plain g.K.Kind.extra_of c.args.a) (plain g.K.Kind.extra_of c.in_ok-multiple.multiple) c.constant-constant.ensures.edge c.in_ok-multiple.ensures.keeps c.requires.good
-    c.in_ok-multiple.ensures.multiple
+pub multiple_of-returns-in-Some-look_up-clause-multiple : goal.multiple_of-returns-in-Some-look_up-clause-multiple
+multiple_of-returns-in-Some-look_up-clause-multiple g t c =
+    let constant = plain g.K.Kind.extra_of c.constant-constant.result in
+    let a = plain g.K.Kind.extra_of c.args.a in
+    known_each g.K.Kind.NAME c.args.factor (scale_work c.args.factor) c.args.self.now constant a (plain g.K.Kind.extra_of c.in-Some-look_up.multiple) c.constant-constant.ensures.edge
+    (c.in-Some-look_up.ensures Product constant a c.key-key.ensures)
+
+pub multiple_of-remember-requires-after_bounds : goal.multiple_of-remember-requires-after_bounds
+multiple_of-remember-requires-after_bounds g t c = λ lives bounds.
+    let k = g.K.Kind.NAME in
+    let v = c.args.self.now in
+    let w = c.scale_anew.new.self in
+    let constant = plain g.K.Kind.extra_of c.constant-constant.result in
+    let a = plain g.K.Kind.extra_of c.args.a in
+    let keeps = c.in_ok-multiple.ensures.keeps in
+    let start : 0 ≤ length v.letters = omega arith in
+    record {
+      operation = Product;
+      first = constant;
+      second = a;
+      is_key = c.key-key.ensures;
+      first_good = still_edge k v w constant keeps (_, c.constant-constant.ensures.table 0 start);
+      second_good = still_edge k v w a keeps c.requires.good;
+      is_result = each_result k c.args.factor (scale_work c.args.factor) v w constant a (plain g.K.Kind.extra_of c.in_ok-multiple.multiple) c.constant-constant.ensures.edge keeps
+          c.requires.good c.in_ok-multiple.ensures.multiple;
+    }
 
 pub multiple_of-returns-clause-multiple : goal.multiple_of-returns-clause-multiple
 multiple_of-returns-clause-multiple g t c =
@@ -63,16 +85,6 @@ multiple_of-returns-in_err-multiple-clause-multiple g t c =
     let factor = c.args.factor in
     refused_each k (multiple factor) (scale_work factor) c.args.self.now c.scale_anew.new.self (plain g.K.Kind.extra_of c.args.a) (plain g.K.Kind.extra_of) c.from_residual.result
     c.in_err-multiple.field-0.0 c.from_residual.ensures.1 c.in_err-multiple.ensures.multiple
-
-pub multiple_of-remember-requires-clause-a_good : goal.multiple_of-remember-requires-clause-a_good
-multiple_of-remember-requires-clause-a_good g t c = λ lives bounds.
-    let v = c.args.self.now in
-    let start : 0 ≤ length v.letters = omega arith in
-    still_edge g.K.Kind.NAME v c.scale_anew.new.self (plain g.K.Kind.extra_of c.constant-constant.result) c.in_ok-multiple.ensures.keeps (_, c.constant-constant.ensures.table 0 start)
-
-pub multiple_of-remember-requires-clause-b_good : goal.multiple_of-remember-requires-clause-b_good
-multiple_of-remember-requires-clause-b_good g t c = λ lives bounds.
-    still_edge g.K.Kind.NAME c.args.self.now c.scale_anew.new.self (plain g.K.Kind.extra_of c.args.a) c.in_ok-multiple.ensures.keeps c.requires.good
 
 pub scale_anew-parts-requires-after_bounds : goal.scale_anew-parts-requires-after_bounds
 scale_anew-parts-requires-after_bounds g t c = λ lives bounds.
@@ -163,8 +175,8 @@ scale_at-returns-clause-multiple g t c = λ x s.
     (plain g.K.Kind.extra_of c.in_ok-high.high) _ c.requires s c.in_ok-low.ensures.keeps c.in_ok-low.ensures.multiple c.in_ok-high.ensures.keeps
     c.in_ok-high.ensures.multiple c.join.ensures.keeps c.join.ensures.join
 
-pub multiple_of-known_product-requires-clause-a_good : goal.multiple_of-known_product-requires-clause-a_good
-multiple_of-known_product-requires-clause-a_good g t c = λ lives bounds.
+pub multiple_of-product_at_once-requires-clause-a_good : goal.multiple_of-product_at_once-requires-clause-a_good
+multiple_of-product_at_once-requires-clause-a_good g t c = λ lives bounds.
     let start : 0 ≤ length c.args.self.now.letters = omega arith in (_, c.constant-constant.ensures.table 0 start)
 
 pub scale-returns-then-eq-clause-keeps : goal.scale-returns-then-eq-clause-keeps

@@ -60,15 +60,31 @@ product_of-returns-in-Some-clause-product g t c =
     let b = plain g.K.Kind.extra_of c.args.b in
     known_both Product k (product_work v.letters) v a b (plain g.K.Kind.extra_of c.in-Some.product) c.in-Some.ensures
 
-pub product_of-remember-requires-clause-is_result : goal.product_of-remember-requires-clause-is_result
-product_of-remember-requires-clause-is_result g t c = λ lives bounds.
+pub product_of-returns-in-Some-look_up-clause-product : goal.product_of-returns-in-Some-look_up-clause-product
+product_of-returns-in-Some-look_up-clause-product g t c =
+    let v = c.args.self.now in
+    let a = plain g.K.Kind.extra_of c.args.a in
+    let b = plain g.K.Kind.extra_of c.args.b in
+    known_both Product g.K.Kind.NAME (product_work v.letters) v a b (plain g.K.Kind.extra_of c.in-Some-look_up.product) (c.in-Some-look_up.ensures Product a b c.key-key.ensures)
+
+pub product_of-remember-requires-after_bounds : goal.product_of-remember-requires-after_bounds
+product_of-remember-requires-after_bounds g t c = λ lives bounds.
     let k = g.K.Kind.NAME in
     let v = c.args.self.now in
     let w = c.mul_anew.new.self in
     let a = plain g.K.Kind.extra_of c.args.a in
     let b = plain g.K.Kind.extra_of c.args.b in
-    both_result Product k (product_work v.letters) v w a b (plain g.K.Kind.extra_of c.in_ok-product.product) c.in_ok-product.ensures.keeps c.requires.a_good c.requires.b_good
-    c.in_ok-product.ensures.product
+    let keeps = c.in_ok-product.ensures.keeps in
+    record {
+      operation = Product;
+      first = a;
+      second = b;
+      is_key = c.key-key.ensures;
+      first_good = still_edge k v w a keeps c.requires.a_good;
+      second_good = still_edge k v w b keeps c.requires.b_good;
+      is_result = both_result Product k (product_work v.letters) v w a b (plain g.K.Kind.extra_of c.in_ok-product.product) keeps c.requires.a_good c.requires.b_good
+          c.in_ok-product.ensures.product;
+    }
 
 pub product_of-returns-clause-product : goal.product_of-returns-clause-product
 product_of-returns-clause-product g t c =
@@ -88,14 +104,6 @@ product_of-returns-in_err-product-clause-product g t c =
     let a = plain g.K.Kind.extra_of c.args.a in
     let b = plain g.K.Kind.extra_of c.args.b in
     refused_both k times (product_work v.letters) v c.mul_anew.new.self a b (plain g.K.Kind.extra_of) c.from_residual.result c.in_err-product.field-0.0 c.from_residual.ensures.1 c.in_err-product.ensures.product
-
-pub product_of-remember-requires-clause-a_good : goal.product_of-remember-requires-clause-a_good
-product_of-remember-requires-clause-a_good g t c = λ lives bounds.
-    still_edge g.K.Kind.NAME c.args.self.now c.mul_anew.new.self (plain g.K.Kind.extra_of c.args.a) c.in_ok-product.ensures.keeps c.requires.a_good
-
-pub product_of-remember-requires-clause-b_good : goal.product_of-remember-requires-clause-b_good
-product_of-remember-requires-clause-b_good g t c = λ lives bounds.
-    still_edge g.K.Kind.NAME c.args.self.now c.mul_anew.new.self (plain g.K.Kind.extra_of c.args.b) c.in_ok-product.ensures.keeps c.requires.b_good
 
 pub mul_anew-parts_of_both-requires-clause-a : goal.mul_anew-parts_of_both-requires-clause-a
 mul_anew-parts_of_both-requires-clause-a g t c = λ lives bounds.

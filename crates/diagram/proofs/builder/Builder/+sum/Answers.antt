@@ -54,15 +54,29 @@ sum_of-returns-in-Some-clause-sum g t c =
     let b = plain g.K.Kind.extra_of c.args.b in
     known_both Sum k (sum_work c.args.walk) v a b (plain g.K.Kind.extra_of c.in-Some.sum) c.in-Some.ensures
 
-pub sum_of-remember-requires-clause-is_result : goal.sum_of-remember-requires-clause-is_result
-sum_of-remember-requires-clause-is_result g t c = λ lives bounds.
+pub sum_of-returns-in-Some-look_up-clause-sum : goal.sum_of-returns-in-Some-look_up-clause-sum
+sum_of-returns-in-Some-look_up-clause-sum g t c =
+    let a = plain g.K.Kind.extra_of c.args.a in
+    let b = plain g.K.Kind.extra_of c.args.b in
+    known_both Sum g.K.Kind.NAME (sum_work c.args.walk) c.args.self.now a b (plain g.K.Kind.extra_of c.in-Some-look_up.sum) (c.in-Some-look_up.ensures Sum a b c.key-key.ensures)
+
+pub sum_of-remember-requires-after_bounds : goal.sum_of-remember-requires-after_bounds
+sum_of-remember-requires-after_bounds g t c = λ lives bounds.
     let k = g.K.Kind.NAME in
     let v = c.args.self.now in
     let w = c.sum_anew.new.self in
     let a = plain g.K.Kind.extra_of c.args.a in
     let b = plain g.K.Kind.extra_of c.args.b in
-    both_result Sum k (sum_work c.args.walk) v w a b (plain g.K.Kind.extra_of c.in_ok-sum.sum) c.in_ok-sum.ensures.keeps c.requires.a_good c.requires.b_good
-    c.in_ok-sum.ensures.sum
+    let keeps = c.in_ok-sum.ensures.keeps in
+    record {
+      operation = Sum;
+      first = a;
+      second = b;
+      is_key = c.key-key.ensures;
+      first_good = still_edge k v w a keeps c.requires.a_good;
+      second_good = still_edge k v w b keeps c.requires.b_good;
+      is_result = both_result Sum k (sum_work c.args.walk) v w a b (plain g.K.Kind.extra_of c.in_ok-sum.sum) keeps c.requires.a_good c.requires.b_good c.in_ok-sum.ensures.sum;
+    }
 
 pub sum_of-returns-clause-sum : goal.sum_of-returns-clause-sum
 sum_of-returns-clause-sum g t c =
@@ -82,14 +96,6 @@ sum_of-returns-in_err-sum-clause-sum g t c =
     let a = plain g.K.Kind.extra_of c.args.a in
     let b = plain g.K.Kind.extra_of c.args.b in
     refused_both k plus (sum_work c.args.walk) v c.sum_anew.new.self a b (plain g.K.Kind.extra_of) c.from_residual.result c.in_err-sum.field-0.0 c.from_residual.ensures.1 c.in_err-sum.ensures.sum
-
-pub sum_of-remember-requires-clause-a_good : goal.sum_of-remember-requires-clause-a_good
-sum_of-remember-requires-clause-a_good g t c = λ lives bounds.
-    still_edge g.K.Kind.NAME c.args.self.now c.sum_anew.new.self (plain g.K.Kind.extra_of c.args.a) c.in_ok-sum.ensures.keeps c.requires.a_good
-
-pub sum_of-remember-requires-clause-b_good : goal.sum_of-remember-requires-clause-b_good
-sum_of-remember-requires-clause-b_good g t c = λ lives bounds.
-    still_edge g.K.Kind.NAME c.args.self.now c.sum_anew.new.self (plain g.K.Kind.extra_of c.args.b) c.in_ok-sum.ensures.keeps c.requires.b_good
 
 pub sum_anew-parts_of_both-requires-clause-a : goal.sum_anew-parts_of_both-requires-clause-a
 sum_anew-parts_of_both-requires-clause-a g t c = λ lives bounds.

@@ -8,16 +8,13 @@ use Rattle.diagram.proofs.builder.Builder.look_up.Goals as goal
 pub unpack-requires : goal.unpack-requires
 unpack-requires g c =
     let v : View = record { store = g.S.Store.view c.self.inside.store; letters = c.self.inside.levels } in
-    are_edge_words g.K.Kind.NAME v c.key.result c.in-Some.words (c.self.invariant.right c.key.result c.in-Some.words c.in-Some.ensures)
+    are_edge_words g.K.Kind.NAME v c.args.key.now c.in-Some.words (c.self.invariant.right c.args.key.now c.in-Some.words c.in-Some.ensures)
 
 pub returns-in-Some : goal.returns-in-Some
-returns-in-Some g c =
+returns-in-Some g c = λ o a b is_key.
     let k = g.K.Kind.NAME in
     let v : View = record { store = g.S.Store.view c.self.inside.store; letters = c.self.inside.levels } in
-    let a = plain g.K.Kind.extra_of c.args.a in
-    let b = plain g.K.Kind.extra_of c.args.b in
-    let o = c.args.operation in
-    let right = c.self.invariant.right c.key.result c.in-Some.words c.in-Some.ensures in
-    let found = found_result o k v a b c.key.result c.in-Some.words c.key.ensures right in
+    let right = c.self.invariant.right c.args.key.now c.in-Some.words c.in-Some.ensures in
+    let found = found_result o k v a b c.args.key.now c.in-Some.words is_key right in
     subst (λ (x : View). IsResult o k x a b (plain g.K.Kind.extra_of c.unpack.result)) c.self.view_is
     (subst (λ (e : PlainEdge). IsResult o k v a b e) (sym (c.unpack.ensures right.result right.fits right.words)) found)

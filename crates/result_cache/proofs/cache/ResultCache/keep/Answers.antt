@@ -1,11 +1,10 @@
-use Rattle.std.proofs.Common.{◌≡◌, ℕ, ◌+◌, ◌<◌, ◌≤◌, ◌-◌, ◌^◌, length, get_or, set, min, bit_and, sym, subst, ap, ◌∙◌, arith, List}
-use Rattle.std.specs.List.{sum_by}
-use Rattle.std.specs.Vec.{vec_capacity, vec_len}
+use Rattle.std.proofs.Common.{◌≡◌, [], ◌∷◌, ◌++◌, ℕ, ◌+◌, ◌<◌, ◌≤◌, ◌-◌, ◌^◌, length, set, sym, subst, ap, ◌∙◌, arith}
+use Rattle.std.specs.Vec.{vec_capacity}
 use Rattle.result_cache.specs.Cache.{Places, kept}
 use Rattle.result_cache.specs.CacheInside.{IsSound, places}
 use Rattle.result_cache.specs.Place.{place_of}
-use Rattle.result_cache.specs.declared.cache.Entry.{Entry}
-use Rattle.result_cache.proofs.CacheLaws.{place_within, some_places, number_read, kept_taken, sound_taken, kept_new, sound_new, room_left}
+use Rattle.result_cache.specs.declared.key.CacheKey.{CacheKey}
+use Rattle.result_cache.proofs.CacheLaws.{place_within, some_places, number_read, kept_taken, kept_new, sound_new, room_left}
 use Rattle.result_cache.proofs.cache.ResultCache.keep.Goals as goal
 
 pub overflow_cast-len : goal.overflow_cast-len
@@ -36,8 +35,9 @@ returns-in-Ok c =
     let entries = c.self.inside.entries.items in
     let at = c.place-place.ensures ∙ ap (place_of c.args.key) (c.len.ensures ∙ c.self.inside.index.ok.0) in
     let next : c.len-in-Ok.result ≡ length entries + 1 = omega (arith, c.len-in-Ok.ensures, c.in-Ok.ensures.len, c.self.inside.entries.ok.0) in
+    let pushed = subst (λ (key : CacheKey). c.push.new.self.items ≡ entries ++ (record { key = key; value = c.args.value } ∷ [])) c.key.ensures c.in-Ok.ensures.items in
     ap (λ (p : ℕ). places (set index p c.len-in-Ok.result) c.push.new.self.items) at
-    ∙ kept_new index entries c.push.new.self.items (vec_capacity c.self.inside.entries) c.args.key c.args.value c.len-in-Ok.result c.self.invariant c.in-Ok.ensures.items next
+    ∙ kept_new index entries c.push.new.self.items (vec_capacity c.self.inside.entries) c.args.key c.args.value c.len-in-Ok.result c.self.invariant pushed next
     ∙ ap (λ (v : Places). kept v c.args.key c.args.value) c.self.view_is
 
 pub returns-in_default : goal.returns-in_default
@@ -54,7 +54,8 @@ returns-else-number-eq0 c =
     let index = c.self.inside.index.items in
     let entries = c.self.inside.entries.items in
     let is = number_read index c.args.key c.place-place.result c.len.result c.index.result.now c.self.invariant.power (c.len.ensures ∙ c.self.inside.index.ok.0) c.place-place.ensures c.index.ensures in
-    kept_taken index entries _ c.args.key c.args.value c.index.result.now c.self.invariant (some_places index c.self.invariant.power) is (omega (arith, c.if-number-eq0.false))
+    ap (λ (key : CacheKey). places index (set entries (c.index.result.now - 1) (record { key = key; value = c.args.value }))) c.key.ensures
+    ∙ kept_taken index entries _ c.args.key c.args.value c.index.result.now c.self.invariant (some_places index c.self.invariant.power) is (omega (arith, c.if-number-eq0.false))
     ∙ ap (λ (v : Places). kept v c.args.key c.args.value) c.self.view_is
 
 pub index_mut-requires-else-number-eq0 : goal.index_mut-requires-else-number-eq0

@@ -26,7 +26,7 @@ returns-then-eq c =
     let read = entry_read index entries key entry n (some_places index c.self.invariant.power) is (omega (arith, c.if-number-eq0.false)) bound c.index-entry.ensures in
     let all = and_parts _ _ (sym c.if-eq.ensures) in
     let rest = and_parts _ _ all.1 in
-    let same = same_key entry.key key (eqb-true _ _ all.0) ((bytes_eq-Decides _ _).0 rest.0) ((bytes_eq-Decides _ _).0 rest.1) in
+    let same = same_key entry.key c.key.result.now (eqb-true _ _ all.0) ((bytes_eq-Decides _ _).0 rest.0) ((bytes_eq-Decides _ _).0 rest.1) ∙ c.key.ensures in
     subst (λ (v : Places). Holds v key entry.value) c.self.view_is (value_read _ key entry read same)
 
 pub returns-else-eq : goal.returns-else-eq
@@ -39,7 +39,8 @@ returns-else-eq c = λ value h.
     let is = number_read index key c.place-place.result c.len.result n c.self.invariant.power (c.len.ensures ∙ c.self.inside.index.ok.0) c.place-place.ensures c.index.ensures in
     let bound = subst (λ (m : ℕ). m ≤ length entries) is (c.self.invariant.ids (place_of key (length index))) in
     let read = entry_read index entries key entry n (some_places index c.self.invariant.power) is (omega (arith, c.if-number-eq0.false)) bound c.index-entry.ensures in
-    let same = other_read _ key entry value read (subst (λ (v : Places). Holds v key value) (sym c.self.view_is) h) in
+    let same = other_read _ key entry value read (subst (λ (v : Places). Holds v key value) (sym c.self.view_is) h) ∙ sym c.key.ensures in
+    let found = c.key.result.now in
     false≢true (c.if-eq.ensures
-    ∙ and_from _ _ (eq-eqb entry.key.op key.op (ap (λ k. k.op) same))
-    (and_from _ _ ((bytes_eq-Decides entry.key.first key.first).1 (ap (λ k. k.first) same)) ((bytes_eq-Decides entry.key.second key.second).1 (ap (λ k. k.second) same))))
+    ∙ and_from _ _ (eq-eqb entry.key.op found.op (ap (λ k. k.op) same))
+    (and_from _ _ ((bytes_eq-Decides entry.key.first found.first).1 (ap (λ k. k.first) same)) ((bytes_eq-Decides entry.key.second found.second).1 (ap (λ k. k.second) same))))

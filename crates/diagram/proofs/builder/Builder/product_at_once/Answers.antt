@@ -2,7 +2,7 @@ use Rattle.std.proofs.Common.{refl}
 use Rattle.kind_laws.specs.Plain.{plain}
 use Rattle.diagram.specs.declared.operation.Operation.TheVariants.{Product}
 use Rattle.diagram.proofs.RememberedLaws.{swapped, product_with_one}
-use Rattle.diagram.proofs.builder.Builder.known_product.Goals as goal
+use Rattle.diagram.proofs.builder.Builder.product_at_once.Goals as goal
 
 pub returns-then-is_constant : goal.returns-then-is_constant
 returns-then-is_constant g c =

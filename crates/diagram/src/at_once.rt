@@ -5,14 +5,13 @@ ghost use Rattle.diagram.specs.View.{IsEdge};
 ghost use Rattle.diagram.specs.declared.operation.Operation.TheVariants as operation;
 
 use crate::builder::Builder;
-use crate::operation::Operation;
 use kind_laws::{Edge, Kind};
 use record_store::Store;
 use word_base::Weight;
 
 impl<K: Kind, S: Store> Builder<K, S> {
-    /// The sum, where an operand is 0 or the sum is remembered.
-    pub(crate) fn known_sum(&self, a: Edge<K>, b: Edge<K>) -> Option<Edge<K>>
+    /// The sum, where an operand is 0.
+    pub(crate) fn sum_at_once(&self, a: Edge<K>, b: Edge<K>) -> Option<Edge<K>>
         requires a_good { IsEdge K.NAME self.now (plain K.extra_of a) }
         requires b_good { IsEdge K.NAME self.now (plain K.extra_of b) }
         ensures { IfSome result (λ r. IsResult operation.Sum K.NAME self.now (plain K.extra_of a) (plain K.extra_of b) (plain K.extra_of r)) }
@@ -23,11 +22,11 @@ impl<K: Kind, S: Store> Builder<K, S> {
         if self.is_constant(b, Weight::ZERO) {
             return Some(a);
         }
-        self.look_up(Operation::Sum, a, b)
+        None
     }
 
-    /// The product, where an operand is 1 or the product is remembered.
-    pub(crate) fn known_product(&self, a: Edge<K>, b: Edge<K>) -> Option<Edge<K>>
+    /// The product, where an operand is 1.
+    pub(crate) fn product_at_once(&self, a: Edge<K>, b: Edge<K>) -> Option<Edge<K>>
         requires a_good { IsEdge K.NAME self.now (plain K.extra_of a) }
         requires b_good { IsEdge K.NAME self.now (plain K.extra_of b) }
         ensures { IfSome result (λ r. IsResult operation.Product K.NAME self.now (plain K.extra_of a) (plain K.extra_of b) (plain K.extra_of r)) }
@@ -38,7 +37,7 @@ impl<K: Kind, S: Store> Builder<K, S> {
         if self.is_constant(b, Weight::ONE) {
             return Some(a);
         }
-        self.look_up(Operation::Product, a, b)
+        None
     }
 
     /// Whether an edge is that of a constant.

@@ -2,7 +2,7 @@ use Rattle.std.proofs.Common.{refl}
 use Rattle.kind_laws.specs.Plain.{plain}
 use Rattle.diagram.specs.declared.operation.Operation.TheVariants.{Sum}
 use Rattle.diagram.proofs.RememberedLaws.{swapped, sum_with_zero}
-use Rattle.diagram.proofs.builder.Builder.known_sum.Goals as goal
+use Rattle.diagram.proofs.builder.Builder.sum_at_once.Goals as goal
 
 pub returns-then-is_constant : goal.returns-then-is_constant
 returns-then-is_constant g c =
