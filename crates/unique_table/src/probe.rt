@@ -1,5 +1,5 @@
 //! The path of a body through the buckets, to its id or to an empty bucket.
-ghost use Rattle.std.specs.Prelude.{◌≡◌, ℕ, ◌+◌, ◌<◌, ◌≤◌, true, false, IsTrue};
+ghost use Rattle.std.specs.Prelude.{◌≡◌, ◌+◌, ◌<◌, true, false, IsTrue};
 ghost use Rattle.table_rule.specs.Counts.{IsIn};
 ghost use Rattle.table_rule.specs.Laws.{IsViewOf};
 ghost use Rattle.table_rule.specs.PassStore.{is_spent};

@@ -1,11 +1,8 @@
 //! The cells that a pass owns and has not published.
 ghost use Rattle.std.specs.Prelude.{◌≡◌, ◌<◌, false, true, IsTrue};
-ghost use Rattle.table_rule.specs.Laws.{IsViewOf};
 ghost use Rattle.table_rule.specs.PassStore.{is_spent};
 ghost use Rattle.unique_table.specs.Exploring.{HasExplored};
 ghost use Rattle.unique_table.specs.PassInside.{IsSeated};
-ghost use Rattle.unique_table.specs.Stocked.{IsStock};
-ghost use Rattle.unique_table.specs.Walking.{IsAt};
 
 use crate::step::Place;
 use crate::table::{CHUNK, SharedTable};
