@@ -1,11 +1,12 @@
 //! The path of a body through the buckets, to its id or to an empty bucket.
-ghost use Rattle.std.specs.Prelude.{◌≡◌, ℕ, ◌+◌, ◌<◌, ◌≤◌, true, false, IsTrue};
+ghost use Rattle.std.specs.Prelude.{◌≡◌, ◌+◌, ◌<◌, true, false, IsTrue};
 ghost use Rattle.table_rule.specs.Counts.{IsIn};
 ghost use Rattle.table_rule.specs.Laws.{IsViewOf};
 ghost use Rattle.table_rule.specs.PassStore.{is_spent};
 ghost use Rattle.table_rule.specs.Steps.{IsCovered};
 ghost use Rattle.unique_table.specs.Exploring.{HasExplored};
 ghost use Rattle.unique_table.specs.Probing.{IsDrafted, HasAdded, HasLost, Settles, Claims, Compares, Visits, Ends};
+ghost use Rattle.unique_table.specs.PassInside.{IsSeated};
 ghost use Rattle.unique_table.specs.Stocked.{IsStock};
 ghost use Rattle.unique_table.specs.declared.stock.Stock.{Stock};
 ghost use Rattle.unique_table.specs.Walking.{IsAt};
@@ -47,14 +48,9 @@ fn prepare(
     body: &[u64; 8],
     drafted: &mut bool,
 ) -> bool
-    requires own { IsAt table.now place.old }
-    requires live { place.old.me.0.ended ≡ false }
-    requires possible { IsViewOf table.now.layout place.old.me.0 }
-    requires stock { IsStock table.now.layout place.old.me.0 stock.old }
+    requires pass { IsSeated table.now place.old stock.old }
     requires drafted { drafted.old ≡ true → IsDrafted place.old.me.0 body.now stock.old }
-    ensures own { IsAt table.now place.new }
-    ensures possible { IsViewOf table.now.layout place.new.me.0 }
-    ensures stock { IsStock table.now.layout place.new.me.0 stock.new }
+    ensures pass { IsSeated table.now place.new stock.new }
     ensures explored { HasExplored place.old.me.0 place.new.me.0 }
     ensures yes { IsTrue result → IsDrafted place.new.me.0 body.now stock.new }
     ensures no { result ≡ false → is_spent table.now.layout place.new.me.0 ≡ true }
@@ -78,16 +74,11 @@ fn publish_draft(
     bucket: u64,
     body: &[u64; 8],
 ) -> u32
-    requires own { IsAt table.now place.old }
-    requires live { place.old.me.0.ended ≡ false }
-    requires possible { IsViewOf table.now.layout place.old.me.0 }
-    requires stock { IsStock table.now.layout place.old.me.0 stock.old }
+    requires pass { IsSeated table.now place.old stock.old }
     requires drafted { IsDrafted place.old.me.0 body.now stock.old }
     requires within { bucket < table.now.layout.buckets }
     requires covered { IsCovered table.now.layout place.old.me.0 body.now bucket }
-    ensures own { IsAt table.now place.new }
-    ensures possible { IsViewOf table.now.layout place.new.me.0 }
-    ensures stock { IsStock table.now.layout place.new.me.0 stock.new }
+    ensures pass { IsSeated table.now place.new stock.new }
     ensures made { result ≡ 0 → HasAdded place.old.me.0 stock.new.next body.now place.new.me.0 }
     ensures lost { 0 < result → HasLost place.old.me.0 bucket result place.new.me.0 × IsDrafted place.new.me.0 body.now stock.new }
 {
@@ -108,16 +99,11 @@ fn settle(
     body: &[u64; 8],
     drafted: &mut bool,
 ) -> Claim
-    requires own { IsAt table.now place.old }
-    requires live { place.old.me.0.ended ≡ false }
-    requires possible { IsViewOf table.now.layout place.old.me.0 }
-    requires stock { IsStock table.now.layout place.old.me.0 stock.old }
+    requires pass { IsSeated table.now place.old stock.old }
     requires drafted { drafted.old ≡ true → IsDrafted place.old.me.0 body.now stock.old }
     requires within { bucket < table.now.layout.buckets }
     requires covered { IsCovered table.now.layout place.old.me.0 body.now bucket }
-    ensures own { IsAt table.now place.new }
-    ensures possible { IsViewOf table.now.layout place.new.me.0 }
-    ensures stock { IsStock table.now.layout place.new.me.0 stock.new }
+    ensures pass { IsSeated table.now place.new stock.new }
     ensures came { Settles table.now.layout place.old.me.0 body.now bucket result stock.new place.new.me.0 }
 {
     if !prepare(table, place, stock, body, drafted) {
@@ -140,16 +126,11 @@ fn claim_bucket(
     body: &[u64; 8],
     drafted: &mut bool,
 ) -> Claim
-    requires own { IsAt table.now place.old }
-    requires live { place.old.me.0.ended ≡ false }
-    requires possible { IsViewOf table.now.layout place.old.me.0 }
-    requires stock { IsStock table.now.layout place.old.me.0 stock.old }
+    requires pass { IsSeated table.now place.old stock.old }
     requires drafted { drafted.old ≡ true → IsDrafted place.old.me.0 body.now stock.old }
     requires within { bucket < table.now.layout.buckets }
     requires covered { IsCovered table.now.layout place.old.me.0 body.now bucket }
-    ensures own { IsAt table.now place.new }
-    ensures possible { IsViewOf table.now.layout place.new.me.0 }
-    ensures stock { IsStock table.now.layout place.new.me.0 stock.new }
+    ensures pass { IsSeated table.now place.new stock.new }
     ensures came { Claims table.now.layout place.old.me.0 body.now bucket result drafted.new stock.new place.new.me.0 }
 {
     let _layout = &table.layout;
@@ -187,16 +168,11 @@ fn visit_bucket(
     body: &[u64; 8],
     drafted: &mut bool,
 ) -> Visit
-    requires own { IsAt table.now place.old }
-    requires live { place.old.me.0.ended ≡ false }
-    requires possible { IsViewOf table.now.layout place.old.me.0 }
-    requires stock { IsStock table.now.layout place.old.me.0 stock.old }
+    requires pass { IsSeated table.now place.old stock.old }
     requires drafted { drafted.old ≡ true → IsDrafted place.old.me.0 body.now stock.old }
     requires within { bucket < table.now.layout.buckets }
     requires covered { IsCovered table.now.layout place.old.me.0 body.now bucket }
-    ensures own { IsAt table.now place.new }
-    ensures possible { IsViewOf table.now.layout place.new.me.0 }
-    ensures stock { IsStock table.now.layout place.new.me.0 stock.new }
+    ensures pass { IsSeated table.now place.new stock.new }
     ensures came { Visits table.now.layout place.old.me.0 body.now bucket result drafted.new stock.new place.new.me.0 }
 {
     match claim_bucket(table, place, stock, bucket, body, drafted) {
@@ -216,13 +192,8 @@ pub(crate) fn find_or_add(
     stock: &mut Stock,
     body: &[u64; 8],
 ) -> Result<u32, StoreFull>
-    requires own { IsAt table.now place.old }
-    requires live { place.old.me.0.ended ≡ false }
-    requires possible { IsViewOf table.now.layout place.old.me.0 }
-    requires stock { IsStock table.now.layout place.old.me.0 stock.old }
-    ensures own { IsAt table.now place.new }
-    ensures possible { IsViewOf table.now.layout place.new.me.0 }
-    ensures stock { IsStock table.now.layout place.new.me.0 stock.new }
+    requires pass { IsSeated table.now place.old stock.old }
+    ensures pass { IsSeated table.now place.new stock.new }
     ensures came { Ends table.now.layout place.old.me.0 body.now result place.new.me.0 }
 {
     let buckets = table.layout.buckets;

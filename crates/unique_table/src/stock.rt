@@ -1,10 +1,8 @@
 //! The cells that a pass owns and has not published.
 ghost use Rattle.std.specs.Prelude.{◌≡◌, ◌<◌, false, true, IsTrue};
-ghost use Rattle.table_rule.specs.Laws.{IsViewOf};
 ghost use Rattle.table_rule.specs.PassStore.{is_spent};
 ghost use Rattle.unique_table.specs.Exploring.{HasExplored};
-ghost use Rattle.unique_table.specs.Stocked.{IsStock};
-ghost use Rattle.unique_table.specs.Walking.{IsAt};
+ghost use Rattle.unique_table.specs.PassInside.{IsSeated};
 
 use crate::step::Place;
 use crate::table::{CHUNK, SharedTable};
@@ -21,13 +19,8 @@ pub(crate) struct Stock {
 
 /// Takes a chunk where no cell is left, and says whether there is a cell.
 pub(crate) fn restock(table: &SharedTable, place: &mut Place, stock: &mut Stock) -> bool
-    requires own { IsAt table.now place.old }
-    requires live { place.old.me.0.ended ≡ false }
-    requires possible { IsViewOf table.now.layout place.old.me.0 }
-    requires stock { IsStock table.now.layout place.old.me.0 stock.old }
-    ensures own { IsAt table.now place.new }
-    ensures possible { IsViewOf table.now.layout place.new.me.0 }
-    ensures stock { IsStock table.now.layout place.new.me.0 stock.new }
+    requires pass { IsSeated table.now place.old stock.old }
+    ensures pass { IsSeated table.now place.new stock.new }
     ensures explored { HasExplored place.old.me.0 place.new.me.0 }
     ensures yes { IsTrue result → stock.new.next < stock.new.end }
     ensures no { result ≡ false → is_spent table.now.layout place.new.me.0 ≡ true }

@@ -2,7 +2,7 @@ ghost use Rattle.std.specs.Prelude.{◌≡◌, ℕ, ◌+◌, ◌<◌, ◌≤◌,
 ghost use Rattle.std.specs.List.{All, range_with_len};
 ghost use Rattle.record_store.specs.StoreView.{find_in};
 ghost use Rattle.table_rule.specs.Views.{fresh};
-ghost use Rattle.table_rule.specs.Words.{IsLayout, word_count};
+ghost use Rattle.table_rule.specs.Words.{word_count};
 ghost use Rattle.table_rule.specs.declared.layout.Layout.{Layout};
 ghost use Rattle.unique_table.specs.Passes.{pass_view};
 ghost use Rattle.unique_table.specs.Values.{IsLayoutFor, IsMade, IsOf, IsShape, begun};

@@ -1,6 +1,6 @@
 #![tactic(auto, using(crate::proofs::Tables::one_table))]
 
-ghost use Rattle.std.specs.Prelude.{◌≡◌, ◌<◌, IfSome};
+ghost use Rattle.std.specs.Prelude.{◌<◌, IfSome};
 ghost use Rattle.std.specs.List.{All};
 ghost use Rattle.unique_table.specs.Values.{IsOf};
 

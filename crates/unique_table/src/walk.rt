@@ -3,7 +3,7 @@ ghost use Rattle.std.specs.Prelude.{◌≡◌, ◌≢◌, ℕ, List, ◌+◌, �
 ghost use Rattle.table_rule.specs.Counts.{IsIn};
 ghost use Rattle.table_rule.specs.Laws.{IsViewOf};
 ghost use Rattle.table_rule.specs.Steps.{IsCovered, IsMet, draft_cell};
-ghost use Rattle.table_rule.specs.Views.{see, read, know, write, publish, see_chunk, take_chunk};
+ghost use Rattle.table_rule.specs.Views.{see, read, write, publish, see_chunk, take_chunk};
 ghost use Rattle.table_rule.specs.Words.{chunks, word_at};
 ghost use Rattle.unique_table.specs.Taking.{CanTake, HasTaken};
 ghost use Rattle.unique_table.specs.Walking.{IsAt, IsNewBehind, KnowsAfter};

@@ -14,9 +14,7 @@ loop-distance-init c =
     let inside : c.table.inside.layout.buckets ≡ L.buckets = ap (λ (t : TableValue). t.layout.buckets) c.table.view_is in
     let few : L.buckets ≤ 2 ^ 32 = let f = shape.few_buckets in omega arith in
     record {
-      own = c.requires.own;
-      possible = c.requires.possible;
-      stock = c.requires.stock;
+      pass = c.requires.pass;
       explored = explored_same c.args.place.now.me.0;
       drafted = λ e. absurd (true≢false (sym e));
       count = inside;
@@ -35,9 +33,7 @@ loop-distance-preserved c =
     let came = e.came in
     let mask : L.buckets - 1 ≡ c.table.inside.layout.buckets - 1 = ap (λ (n : ℕ). n - 1) (sym i.count) in
     record {
-      own = e.own;
-      possible = e.possible;
-      stock = e.stock;
+      pass = e.pass;
       explored = explored_on c.args.place.now.me.0 v w i.explored came.0;
       drafted = came.2;
       count = i.count;
@@ -51,4 +47,4 @@ unreachable-requires c =
     let shape = subst IsShape (ap (λ (t : TableValue). t.layout) c.table.view_is) c.table.invariant.0 in
     let i = c.loop-distance.invariant in
     let done = c.loop-distance-test.false in
-    not_round L shape.layout c.loop-distance.place.me.0 i.possible c.args.body.now c.loop-distance.distance (omega (arith, i.count)) i.passed
+    not_round L shape.layout c.loop-distance.place.me.0 i.pass.possible c.args.body.now c.loop-distance.distance (omega (arith, i.count)) i.passed

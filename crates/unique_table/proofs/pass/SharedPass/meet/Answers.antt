@@ -24,17 +24,17 @@ join_seat-requires c =
     let shared = c.table.inside.table.shared in
     let count = c.table.invariant.2 in
     let table = ap (λ (t : TableValue). t.names) c.table.view_is in
-    let mine = c.self.invariant.own.0 ∙ sym table in
+    let mine = c.self.invariant.seated.own.0 ∙ sym table in
     let t = c.self.inside.table.now in
     let o = c.other.inside.table.now in
     let same = one (record { names = t.names; layout = t.layout; view = c.self.inside.place.me.0 }) (record { names = o.names; layout = o.layout; view = c.other.inside.place.me.0 }) _ _ c.self.invariant.shape c.other.invariant.shape c.self.view_is c.other.view_is c.requires.table in
     let names : o.names ≡ t.names = same.0 in
-    let theirs = c.other.invariant.own.0 ∙ names ∙ sym table in (
+    let theirs = c.other.invariant.seated.own.0 ∙ names ∙ sym table in (
       same_names c.self.inside.place.table_id shared.table_id mine,
       same_names c.other.inside.place.table_id shared.table_id theirs,
-      c.other.invariant.own.1,
+      c.other.invariant.seated.own.1,
       omega arith,
-      joins_seats shared.key c.self.inside.place.id c.self.inside.place.me.0 c.other.inside.place.id c.other.inside.place.me.0 c.self.invariant.live c.other.invariant.live,
+      joins_seats shared.key c.self.inside.place.id c.self.inside.place.me.0 c.other.inside.place.id c.other.inside.place.me.0 c.self.invariant.seated.live c.other.invariant.seated.live,
     )
 
 pub invariant_of-self : goal.invariant_of-self
@@ -59,8 +59,8 @@ returns c =
     let same = one (record { names = t.names; layout = t.layout; view = v }) (record { names = o.names; layout = o.layout; view = u }) _ _ c.self.invariant.shape c.other.invariant.shape c.self.view_is c.other.view_is c.requires.table in
     let names : o.names ≡ t.names = same.0 in
     let layout : o.layout ≡ t.layout = same.1 in
-    let possible : IsViewOf t.layout u = subst (λ (L : Layout). IsViewOf L u) layout c.other.invariant.possible in
-    let met = meets t.names t.layout v u w 0 c.look_chunk.result is c.self.invariant.shape c.self.invariant.possible possible e.possible in
+    let possible : IsViewOf t.layout u = subst (λ (L : Layout). IsViewOf L u) layout c.other.invariant.seated.possible in
+    let met = meets t.names t.layout v u w 0 c.look_chunk.result is c.self.invariant.shape c.self.invariant.seated.possible possible e.possible in
     let new : PassValue = record { names = t.names; layout = t.layout; view = w } in
     let old : PassValue = record { names = t.names; layout = t.layout; view = v } in
     let of_table : HasMet old (record { names = o.names; layout = o.layout; view = u }) new = subst (λ (x : List ℕ × Layout). HasMet old (record { names = x.0; layout = x.1; view = u }) new) (λ i. (sym names i, sym layout i)) met in

@@ -9,9 +9,9 @@ pub split_seat-place-requires : goal.split_seat-place-requires
 split_seat-place-requires c =
     let shared = c.table.inside.table.shared in
     let count = c.table.invariant.2 in (
-      same_names c.self.inside.place.table_id shared.table_id (c.self.invariant.own.0 ∙ sym (ap (λ (t : TableValue). t.names) c.table.view_is)),
+      same_names c.self.inside.place.table_id shared.table_id (c.self.invariant.seated.own.0 ∙ sym (ap (λ (t : TableValue). t.names) c.table.view_is)),
       omega arith,
-      forks_seat shared.key c.self.inside.place.id c.self.inside.place.me.0 c.self.invariant.live,
+      forks_seat shared.key c.self.inside.place.id c.self.inside.place.me.0 c.self.invariant.seated.live,
     )
 
 pub invariant_of-self : goal.invariant_of-self

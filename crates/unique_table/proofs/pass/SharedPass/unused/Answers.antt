@@ -8,9 +8,9 @@ use Rattle.unique_table.proofs.pass.SharedPass.unused.Goals as goal
 pub returns-clause-count : goal.returns-clause-count
 returns-clause-count c =
     let s = c.self.inside.stock in
-    sym (length-range_with_len s.next (s.end - s.next)) ∙ sym (ap length c.self.invariant.stock.held) ∙ ap (λ (p : PassValue). length p.view.held) c.self.view_is
+    sym (length-range_with_len s.next (s.end - s.next)) ∙ sym (ap length c.self.invariant.seated.stock.held) ∙ ap (λ (p : PassValue). length p.view.held) c.self.view_is
 
 pub returns-clause-pass : goal.returns-clause-pass
 returns-clause-pass c =
     let t = c.self.inside.table.now in
-    subst IsSoundPass c.self.view_is (sound t.names t.layout c.self.inside.place.me.0 c.self.invariant.shape c.self.invariant.possible c.self.invariant.live c.self.invariant.empty)
+    subst IsSoundPass c.self.view_is (sound t.names t.layout c.self.inside.place.me.0 c.self.invariant.shape c.self.invariant.seated.possible c.self.invariant.seated.live c.self.invariant.empty)

@@ -33,5 +33,5 @@ returns-clause-body c =
     let done = c.loop-i-test.false in
     let found : find_in (pass_view (record { names = t.names; layout = t.layout; view = v })) c.args.id ≡ Some node = ap (λ (p : PassValue). find_in (pass_view p) c.args.id) c.self.view_is ∙ c.requires.1 in
     let known : IsIn v.known (c.args.id, node) = known_in t.names t.layout v c.args.id node found in
-    let same : node ≡ c.loop-i.body = is_body t.names t.layout v c.self.invariant.possible c.args.id node c.loop-i.body known i.long (λ j few. i.words node known j (omega arith)) in
+    let same : node ≡ c.loop-i.body = is_body t.names t.layout v c.self.invariant.seated.possible c.args.id node c.loop-i.body known i.long (λ j few. i.words node known j (omega arith)) in
     c.requires.1 ∙ ap Some same

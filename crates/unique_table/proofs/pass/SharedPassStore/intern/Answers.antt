@@ -11,4 +11,4 @@ returns-clause-interns c =
     let w = c.find_or_add.new.place.me.0 in
     let e = c.find_or_add.ensures in
     subst (λ (p : PassValue). Interns (pass_view p) (pass_view (record { names = t.names; layout = t.layout; view = w })) c.args.body.now c.find_or_add.result) c.self.view_is
-    (ends_interns t.names t.layout c.self.inside.place.me.0 w c.args.body.now c.find_or_add.result c.self.invariant.shape.layout e.possible e.came)
+    (ends_interns t.names t.layout c.self.inside.place.me.0 w c.args.body.now c.find_or_add.result c.self.invariant.shape.layout e.pass.possible e.came)
