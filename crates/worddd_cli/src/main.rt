@@ -1,5 +1,6 @@
-//! The program: `worddd check [--kind KIND] [--cells NUMBER] NETLIST SPECIFICATION`. It decides the checks of the
-//! specification over the netlist, prints a line for each, and ends with the number of its status.
+//! The program: `worddd check [--kind KIND] [--cells NUMBER] NETLIST SPECIFICATION`, and `worddd gen [--kind KIND]
+//! [--cells NUMBER] SIZE`. It decides the checks of the specification over the netlist, or the check of a multiplier of the
+//! size, prints a line for each, and ends with the number of its status.
 #![tactic(auto)]
 
 ghost use Rattle.std.specs.Prelude.{◌≡◌, ◌↔◌, [], map, IfOk, IfErr, IsErr, string_bytes};
