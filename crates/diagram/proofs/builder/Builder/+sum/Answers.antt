@@ -18,7 +18,7 @@ use Rattle.diagram.specs.declared.operation.Operation.TheVariants.{Sum}
 use Rattle.diagram.proofs.RememberedLaws.{known_both, both_result}
 use Rattle.diagram.proofs.ShiftLaws.{unshifted_good}
 use Rattle.diagram.proofs.StoreLaws.{keeps_on, keeps_itself}
-use Rattle.diagram.proofs.StrippedSums.{IsStripped, shifts_overflow, rests_refuse, put_overflows, shifts_put_back}
+use Rattle.diagram.proofs.StrippedSums.{IsStripped, overflows_anyway, rests_refuse, put_overflows, shifts_put_back}
 use Rattle.diagram.proofs.SumLaws.{sum_by_halves, sum_covers_sum, sum_covers_operands}
 use Rattle.diagram.proofs.SumCalls.{refused_both, low_refuses, high_refuses, sum_joins, sums_can_join, falls_to_high}
 use Rattle.diagram.proofs.builder.Builder.+sum.Goals as goal
@@ -201,7 +201,7 @@ sum_at-sum_by-requires-2 g t c = λ lives bounds.
     let b = plain g.K.Kind.extra_of c.args.parts.high.1 in
     let falls = falls_to_high k v w c.args.level (plain_parts g.K.Kind.extra_of c.args.parts) c.requires c.in_ok-low.ensures.keeps in
     let keeps = c.in_ok-low.ensures.keeps in
-    (subst (λ (n : ℕ). 5 * (length w.letters - min (top_of w a.node) (top_of w b.node)) + 4 < n) c.decreases falls, (bounds.0, (bounds.1.0, (bounds.1.1, (search rules, (search rules, (search rules, (search rules, (still_edge k v w a keeps c.requires.first_high.good, still_edge k v w b keeps c.requires.second_high.good)))))))))
+    (subst (λ (n : ℕ). 7 * (length w.letters - min (top_of w a.node) (top_of w b.node)) + 6 < n) c.decreases falls, (bounds.0, (bounds.1.0, (bounds.1.1, (search rules, (search rules, (search rules, (search rules, (still_edge k v w a keeps c.requires.first_high.good, still_edge k v w b keeps c.requires.second_high.good)))))))))
 
 pub sum_by-returns-in-Stripping-clause-sum : goal.sum_by-returns-in-Stripping-clause-sum
 sum_by-returns-in-Stripping-clause-sum g t c =
@@ -221,16 +221,16 @@ sum_of_rests-returns-in_err-shift-clause-sum g t c =
     let a = plain g.K.Kind.extra_of c.args.a in
     let b = plain g.K.Kind.extra_of c.args.b in
     refused_both k plus (sum_work Stripping) v v a b (plain g.K.Kind.extra_of) c.from_residual.result limit.Overflow c.from_residual.ensures.1
-    (shifts_overflow k v a b)
+    (overflows_anyway k v a b)
 
-pub sum_of_rests-sum_of-requires-clause-a_good : goal.sum_of_rests-sum_of-requires-clause-a_good
-sum_of_rests-sum_of-requires-clause-a_good g t c = λ lives bounds.
+pub sum_of_rests-sum_of_multiples-requires-clause-a_good : goal.sum_of_rests-sum_of_multiples-requires-clause-a_good
+sum_of_rests-sum_of_multiples-requires-clause-a_good g t c = λ lives bounds.
     let k = g.K.Kind.NAME in
     let v = c.args.self.now in
     subst (IsEdge k v) (sym c.take_shift-first_shift.ensures.rest) (unshifted_good k v (plain g.K.Kind.extra_of c.args.a) c.requires.a_good)
 
-pub sum_of_rests-sum_of-requires-clause-b_good : goal.sum_of_rests-sum_of-requires-clause-b_good
-sum_of_rests-sum_of-requires-clause-b_good g t c = λ lives bounds.
+pub sum_of_rests-sum_of_multiples-requires-clause-b_good : goal.sum_of_rests-sum_of_multiples-requires-clause-b_good
+sum_of_rests-sum_of_multiples-requires-clause-b_good g t c = λ lives bounds.
     let k = g.K.Kind.NAME in
     let v = c.args.self.now in
     subst (IsEdge k v) (sym c.take_shift-second_shift.ensures.rest) (unshifted_good k v (plain g.K.Kind.extra_of c.args.b) c.requires.b_good)
@@ -239,7 +239,7 @@ pub sum_of_rests-returns-in_err-rest-clause-sum : goal.sum_of_rests-returns-in_e
 sum_of_rests-returns-in_err-rest-clause-sum g t c =
     let k = g.K.Kind.NAME in
     let v = c.args.self.now in
-    let w = c.sum_of.new.self in
+    let w = c.sum_of_multiples.new.self in
     let a = plain g.K.Kind.extra_of c.args.a in
     let b = plain g.K.Kind.extra_of c.args.b in
     refused_both k plus (sum_work Stripping) v w a b (plain g.K.Kind.extra_of) c.from_residual-in_err-rest.result c.in_err-rest.field-0.0
@@ -251,7 +251,7 @@ pub sum_of_rests-returns-in_err-put_shift-clause-sum : goal.sum_of_rests-returns
 sum_of_rests-returns-in_err-put_shift-clause-sum g t c =
     let k = g.K.Kind.NAME in
     let v = c.args.self.now in
-    let w = c.sum_of.new.self in
+    let w = c.sum_of_multiples.new.self in
     let a = plain g.K.Kind.extra_of c.args.a in
     let b = plain g.K.Kind.extra_of c.args.b in
     let rest = plain g.K.Kind.extra_of c.in_ok-rest.rest in
@@ -264,7 +264,7 @@ pub sum_of_rests-returns-clause-sum : goal.sum_of_rests-returns-clause-sum
 sum_of_rests-returns-clause-sum g t c =
     let k = g.K.Kind.NAME in
     let v = c.args.self.now in
-    let w = c.sum_of.new.self in
+    let w = c.sum_of_multiples.new.self in
     let a = plain g.K.Kind.extra_of c.args.a in
     let b = plain g.K.Kind.extra_of c.args.b in
     let rest = plain g.K.Kind.extra_of c.in_ok-rest.rest in
