@@ -20,6 +20,7 @@ use Rattle.tables.proofs.TableLaws.{both_halves, each-plus}
 use Rattle.kind_laws.specs.Plain.{PlainEdge}
 use Rattle.kind_laws.specs.Scale.{scale_of, unscaled, MayScale, scaled}
 use Rattle.kind_laws.proofs.ScaleLaws.{scaled-keeps_node, unscaled-keeps_node}
+use Rattle.diagram.specs.Products.{AreSome}
 use Rattle.diagram.specs.Sums.{sum_work}
 use Rattle.diagram.specs.View.{View, StandsAt, IsEdge, Keeps}
 use Rattle.diagram.specs.declared.limit.Limit.{Limit}
@@ -31,15 +32,6 @@ use Rattle.diagram.proofs.ScaledEdges.{is_factor, scaled_stands, unscaled_stands
 use Rattle.diagram.proofs.StrippedSums.{SameShapes, same_shapes_covered, unfit_anyway, IsStripped}
 
 -- ---- common factors
-pub common_nonzero : (s r : ℤ) → s ≢ pos 0 → signed_gcd s r (pos 0) ≢ pos 0
-common_nonzero s r some z = some ((signed_gcd-is_zero s r (pos 0)).0 z).0
-
-pub common_divides_first : (s r : ℤ) → unsigned_abs (signed_gcd s r (pos 0)) ∣ unsigned_abs s
-common_divides_first s r = subst (λ (n : ℕ). n ∣ unsigned_abs s) (sym (unsigned_abs-signed_gcd s r (pos 0))) (gcd3-divides_first s r (pos 0))
-
-pub common_divides_second : (s r : ℤ) → unsigned_abs (signed_gcd s r (pos 0)) ∣ unsigned_abs r
-common_divides_second s r = subst (λ (n : ℕ). n ∣ unsigned_abs r) (sym (unsigned_abs-signed_gcd s r (pos 0))) (gcd3-divides_second s r (pos 0))
-
 may_scale_common : (k : KindName) (v w : Weights) → MayScale k (signed_gcd (scale_of k v) (scale_of k w) (pos 0))
 may_scale_common Evbdd v w = refl
 may_scale_common StarBmd v w = tt
@@ -138,11 +130,11 @@ rests_covered k v l g t u x y m =
     let p = m.first.rest in
     let r = m.second.rest in
     same_shapes_covered k v.letters l t u p r (
-      record {
-        first = multiple_shape k ds l g t p factor m.first.is_multiple;
-        second = multiple_shape k ds l g u r factor m.second.is_multiple;
-        sum = multiple_shape k ds l g (plus t u) (plus p r) factor (sum_is k v l g t u x y m);
-      }
+    record {
+      first = multiple_shape k ds l g t p factor m.first.is_multiple;
+      second = multiple_shape k ds l g u r factor m.second.is_multiple;
+      sum = multiple_shape k ds l g (plus t u) (plus p r) factor (sum_is k v l g t u x y m);
+    }
     )
 
 pub quotients_refuse : (k : KindName) (v w : View) (g : ℤ) (a b x y : PlainEdge) (e : Limit) → AreQuotients k g a b x y → Keeps v w →
@@ -178,14 +170,59 @@ factor_put_back k v w g a b x y rest total q keeps is sum l t u h j =
           (scaled_stands k w l g (plus m.first.rest m.second.rest) rest m.may m.some answers.stands));
     }
 
--- the quotients of two edges by their common factor
-pub common_quotients : (k : KindName) (g p r : ℤ) (a b x y : PlainEdge) → scale_of k a.root ≢ pos 0 → scale_of k b.root ≢ pos 0 →
-    g ≡ signed_gcd (scale_of k a.root) (scale_of k b.root) (pos 0) → g *ℤ p ≡ scale_of k a.root → g *ℤ r ≡ scale_of k b.root →
-    x ≡ scaled k p (unscaled k a) → y ≡ scaled k r (unscaled k b) → AreQuotients k g a b x y
-common_quotients k g p r a b x y some_a some_b is exact_a exact_b is_x is_y =
-    let may = subst (MayScale k) (sym is) (may_scale_common k a.root b.root) in
+-- ---- the quotients of two edges by their common factor
+-- the greatest common divisor of the factors of two edges of which none is the constant 0
+pub record IsCommon (k : KindName) (s r g : ℤ) (a b : PlainEdge) : Type 0 where
+  pub some_a : scale_of k a.root ≢ pos 0
+  pub some_b : scale_of k b.root ≢ pos 0
+  pub first : s ≡ scale_of k a.root
+  pub second : r ≡ scale_of k b.root
+  pub is : g ≡ signed_gcd s r (pos 0)
+
+pub common_factor : (k : KindName) (v : View) (s r g : ℤ) (a b : PlainEdge) → IsEdge k v a → IsEdge k v b → AreSome k a b → s ≡ scale_of k a.root →
+    r ≡ scale_of k b.root → g ≡ signed_gcd s r (pos 0) → IsCommon k s r g a b
+common_factor k v s r g a b good_a good_b some first second is = record {
+  some_a = some_scale k v 0 good_a.0 a good_a.1 some.first;
+  some_b = some_scale k v 0 good_b.0 b good_b.1 some.second;
+  first = first;
+  second = second;
+  is = is;
+}
+
+pub common_nonzero : (k : KindName) (s r g : ℤ) (a b : PlainEdge) → IsCommon k s r g a b → g ≢ pos 0
+common_nonzero k s r g a b c z = c.some_a (sym c.first ∙ ((signed_gcd-is_zero s r (pos 0)).0 (sym c.is ∙ z)).0)
+
+pub common_divides_first : (k : KindName) (s r g : ℤ) (a b : PlainEdge) → IsCommon k s r g a b → unsigned_abs g ∣ unsigned_abs s
+common_divides_first k s r g a b c =
+    subst (λ (n : ℕ). n ∣ unsigned_abs s) (sym (ap unsigned_abs c.is ∙ unsigned_abs-signed_gcd s r (pos 0))) (gcd3-divides_first s r (pos 0))
+
+pub common_divides_second : (k : KindName) (s r g : ℤ) (a b : PlainEdge) → IsCommon k s r g a b → unsigned_abs g ∣ unsigned_abs r
+common_divides_second k s r g a b c =
+    subst (λ (n : ℕ). n ∣ unsigned_abs r) (sym (ap unsigned_abs c.is ∙ unsigned_abs-signed_gcd s r (pos 0))) (gcd3-divides_second s r (pos 0))
+
+pub may_scale_factor : (k : KindName) (s r g : ℤ) (a b : PlainEdge) → IsCommon k s r g a b → MayScale k g
+may_scale_factor k s r g a b c =
+    subst (MayScale k) (sym (c.is ∙ ap (λ (x : ℤ). signed_gcd x r (pos 0)) c.first ∙ ap (λ (y : ℤ). signed_gcd (scale_of k a.root) y (pos 0)) c.second))
+    (may_scale_common k a.root b.root)
+
+pub may_scale_first : (k : KindName) (s r g p : ℤ) (a b : PlainEdge) → IsCommon k s r g a b → g *ℤ p ≡ s → MayScale k p
+may_scale_first k s r g p a b c exact = may_scale_quotient k g p a.root (may_scale_factor k s r g a b c) (exact ∙ c.first)
+
+pub may_scale_second : (k : KindName) (s r g p : ℤ) (a b : PlainEdge) → IsCommon k s r g a b → g *ℤ p ≡ r → MayScale k p
+may_scale_second k s r g p a b c exact = may_scale_quotient k g p b.root (may_scale_factor k s r g a b c) (exact ∙ c.second)
+
+-- an edge times what is left of its factor, which was taken from it
+pub record IsTaken (k : KindName) (g s p : ℤ) (a rest x : PlainEdge) : Type 0 where
+  pub exact : g *ℤ p ≡ s
+  pub rest_is : rest ≡ unscaled k a
+  pub is : x ≡ scaled k p rest
+
+pub common_quotients : (k : KindName) (s r g p q : ℤ) (a b rest_a rest_b x y : PlainEdge) → IsCommon k s r g a b → IsTaken k g s p a rest_a x →
+    IsTaken k g r q b rest_b y → AreQuotients k g a b x y
+common_quotients k s r g p q a b rest_a rest_b x y c first second =
+    let may = may_scale_factor k s r g a b c in
     record {
-      some = subst (λ (z : ℤ). z ≢ pos 0) (sym is) (common_nonzero (scale_of k a.root) (scale_of k b.root) some_a);
-      first = record { some = some_a; may = may; left = p; exact = exact_a; is = is_x };
-      second = record { some = some_b; may = may; left = r; exact = exact_b; is = is_y };
+      some = common_nonzero k s r g a b c;
+      first = record { some = c.some_a; may = may; left = p; exact = first.exact ∙ c.first; is = first.is ∙ ap (scaled k p) first.rest_is };
+      second = record { some = c.some_b; may = may; left = q; exact = second.exact ∙ c.second; is = second.is ∙ ap (scaled k q) second.rest_is };
     }
