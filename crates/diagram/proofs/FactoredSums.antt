@@ -1,6 +1,6 @@
 -- A sum by that of the operands without their common factor.
-use Rattle.std.proofs.Common.{◌≡◌, refl, sym, ◌∙◌, ap, subst, ℕ, ℤ, pos, ◌+ℤ◌, ◌*ℤ◌, List, length, drop}
-use Rattle.std.specs.Prelude.{◌≢◌, Result, Ok, Err, unsigned_abs}
+use Rattle.std.proofs.Common.{◌≡◌, refl, sym, ◌∙◌, ap, subst, ℕ, ℤ, pos, ◌*ℤ◌, List, length, drop}
+use Rattle.std.specs.Prelude.{◌≢◌, Ok, Err, unsigned_abs}
 use Rattle.std.specs.Int.{◌∣◌}
 use Rattle.std.proofs.Math.IntN.{*ℤ-zero}
 use Rattle.integers.specs.Gcd.{signed_gcd}
@@ -29,7 +29,7 @@ use Rattle.diagram.specs.declared.walk.Walk.TheVariants.{Stripping}
 use Rattle.diagram.proofs.CallLaws.{Ran, ran_nothing, ran_then, refuses_then, ran_overflows}
 use Rattle.diagram.proofs.JoinCauses.{no_cause}
 use Rattle.diagram.proofs.ScaledEdges.{is_factor, scaled_stands, unscaled_stands, some_scale}
-use Rattle.diagram.proofs.StrippedSums.{SameShapes, same_shapes_covered, unfit_anyway, IsStripped}
+use Rattle.diagram.proofs.StrippedSums.{same_shapes_covered, unfit_anyway, IsStripped}
 
 -- ---- common factors
 may_scale_common : (k : KindName) (v w : Weights) → MayScale k (signed_gcd (scale_of k v) (scale_of k w) (pos 0))

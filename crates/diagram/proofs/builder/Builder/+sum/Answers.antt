@@ -13,7 +13,7 @@ use Rattle.diagram.specs.declared.walk.Walk.{Walk}
 use Rattle.diagram.specs.declared.walk.Walk.TheVariants.{Stripping}
 use Rattle.diagram.proofs.BothLaws.{constant_is, constants_answer, HaveNode, can_part_first, can_part_second, parts_lie_below}
 use Rattle.diagram.proofs.CallLaws.{same_keeps, both_of_parts, both_unfit}
-use Rattle.diagram.proofs.FactoredSums.{IsCommon, AreQuotients, common_factor, common_nonzero, common_divides_first, common_divides_second, may_scale_factor, may_scale_first, may_scale_second, common_quotients, quotient_good, quotient_node, quotients_refuse, factor_overflows, factor_put_back}
+use Rattle.diagram.proofs.FactoredSums.{AreQuotients, common_factor, common_nonzero, common_divides_first, common_divides_second, may_scale_factor, may_scale_first, may_scale_second, common_quotients, quotient_good, quotient_node, quotients_refuse, factor_overflows, factor_put_back}
 use Rattle.diagram.proofs.LevelLaws.{still_edge}
 use Rattle.diagram.specs.declared.operation.Operation.TheVariants.{Sum}
 use Rattle.diagram.proofs.RememberedLaws.{known_both, both_result}
