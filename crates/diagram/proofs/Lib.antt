@@ -7,6 +7,7 @@ pub mod EachLaws
 mod Examples
 pub mod FactorCovers
 pub mod FactoredProducts
+pub mod FactoredSums
 pub mod GatherLaws
 pub mod HalfLaws
 pub mod JoinCauses

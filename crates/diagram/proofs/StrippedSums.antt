@@ -52,10 +52,10 @@ work_nodes k ds l t u s (p, at, is) =
     ]
 
 -- ---- nodes of the sum of what is left
-record SameShapes (k : KindName) (ds : List Decomp) (l : ℕ) (t u x y : Table) : Type 0 where
-  first : (canonical k (drop l ds) l x).shape ≡ (canonical k (drop l ds) l t).shape
-  second : (canonical k (drop l ds) l y).shape ≡ (canonical k (drop l ds) l u).shape
-  sum : (canonical k (drop l ds) l (plus x y)).shape ≡ (canonical k (drop l ds) l (plus t u)).shape
+pub record SameShapes (k : KindName) (ds : List Decomp) (l : ℕ) (t u x y : Table) : Type 0 where
+  pub first : (canonical k (drop l ds) l x).shape ≡ (canonical k (drop l ds) l t).shape
+  pub second : (canonical k (drop l ds) l y).shape ≡ (canonical k (drop l ds) l u).shape
+  pub sum : (canonical k (drop l ds) l (plus x y)).shape ≡ (canonical k (drop l ds) l (plus t u)).shape
 
 same_nodes : (k : KindName) (ds : List Decomp) (l : ℕ) (t u x y : Table) → SameShapes k ds l t u x y → (s : Shape) →
     InNodes k ds (sum_work Stripping l x y) s → InNodes k ds (sum_work Stripping l t u) s
@@ -85,12 +85,13 @@ same_shapes k v l t u a b h g =
           ∙ ap (λ (z : Table). (canonical k (drop l v.letters) l z).shape) (sum_put_back c d n t u h.stands.over g.stands.over);
     }
 
+pub same_shapes_covered : (k : KindName) (ds : List Decomp) (l : ℕ) (t u x y : Table) → SameShapes k ds l t u x y →
+    Covers k ds (sum_work Stripping l t u) (sum_work Stripping l x y)
+same_shapes_covered k ds l t u x y same = record { nodes = same_nodes k ds l t u x y same; unfit = λ some. unfit_anyway k ds l t u }
+
 rests_covered : (k : KindName) (v : View) (l : ℕ) (t u : Table) (a b : PlainEdge) → StandsAt k v l t a → StandsAt k v l u b →
     Covers k v.letters (sum_work Stripping l t u) (sum_work Stripping l (lowered k a t) (lowered k b u))
-rests_covered k v l t u a b h g = record {
-  nodes = same_nodes k v.letters l t u (lowered k a t) (lowered k b u) (same_shapes k v l t u a b h g);
-  unfit = λ some. unfit_anyway k v.letters l t u;
-}
+rests_covered k v l t u a b h g = same_shapes_covered k v.letters l t u (lowered k a t) (lowered k b u) (same_shapes k v l t u a b h g)
 
 -- ---- the sum of two edges, from one view to another, without shifts
 abbrev pub IsStripped : KindName → View → View → PlainEdge → PlainEdge → Result PlainEdge Limit → Type 0
@@ -101,9 +102,9 @@ rests_answer : (k : KindName) (v w : View) (l : ℕ) (t u : Table) (a b : PlainE
     Answers k v w (sum_work Stripping l (lowered k a t) (lowered k b u)) l (plus (lowered k a t) (lowered k b u)) r
 rests_answer k v w l t u a b r h g sum = sum l _ _ (unshifted_stands k v l t a h) (unshifted_stands k v l u b g)
 
--- the shifts' sum is no weight
-pub shifts_overflow : (k : KindName) (v : View) (a b : PlainEdge) → IsStripped k v v a b (Err limit.Overflow)
-shifts_overflow k v a b l t u h g =
+-- it may overflow at once
+pub overflows_anyway : (k : KindName) (v : View) (a b : PlainEdge) → IsStripped k v v a b (Err limit.Overflow)
+overflows_anyway k v a b l t u h g =
     ran_overflows k v v (sum_work Stripping l t u) l (plus t u) (ran_nothing k v (sum_work Stripping l t u)) (unfit_anyway k v.letters l t u)
 
 pub rests_refuse : (k : KindName) (v w : View) (a b : PlainEdge) (e : Limit) → Keeps v w → IsStripped k v w (unshifted k a) (unshifted k b) (Err e) →

@@ -114,7 +114,7 @@ sums_can_join walk k v w x l parts low high below keeps sum later sums =
 
 -- the upper node of the high parts lies deeper, also after the low parts' call
 pub falls_to_high : (k : KindName) (v w : View) (l : ℕ) (parts : PlainParts) → LieBelow k v l parts → Keeps v w →
-    5 * (length w.letters - min (top_of w parts.high.0.node) (top_of w parts.high.1.node)) + 4 < 5 * (length v.letters - l)
+    7 * (length w.letters - min (top_of w parts.high.0.node) (top_of w parts.high.1.node)) + 6 < 7 * (length v.letters - l)
 falls_to_high k v w l parts below keeps =
     let within = below.within in
     let first = same_top k v w parts.high.0 keeps below.first_high.good in

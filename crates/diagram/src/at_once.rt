@@ -1,5 +1,6 @@
-ghost use Rattle.std.specs.Prelude.{◌≡◌, ◌↔◌, IfSome, IsTrue};
+ghost use Rattle.std.specs.Prelude.{◌≡◌, ◌↔◌, IfSome, IsTrue, MatchOption};
 ghost use Rattle.kind_laws.specs.Plain.{plain, constant_edge};
+ghost use Rattle.diagram.specs.Products.{AreSome};
 ghost use Rattle.diagram.specs.Remembered.{IsResult};
 ghost use Rattle.diagram.specs.View.{IsEdge};
 ghost use Rattle.diagram.specs.declared.operation.Operation.TheVariants as operation;
@@ -14,7 +15,8 @@ impl<K: Kind, S: Store> Builder<K, S> {
     pub(crate) fn sum_at_once(&self, a: Edge<K>, b: Edge<K>) -> Option<Edge<K>>
         requires a_good { IsEdge K.NAME self.now (plain K.extra_of a) }
         requires b_good { IsEdge K.NAME self.now (plain K.extra_of b) }
-        ensures { IfSome result (λ r. IsResult operation.Sum K.NAME self.now (plain K.extra_of a) (plain K.extra_of b) (plain K.extra_of r)) }
+        ensures { MatchOption result (AreSome K.NAME (plain K.extra_of a) (plain K.extra_of b))
+            (λ r. IsResult operation.Sum K.NAME self.now (plain K.extra_of a) (plain K.extra_of b) (plain K.extra_of r)) }
     {
         if self.is_constant(a, Weight::ZERO) {
             return Some(b);

@@ -261,6 +261,60 @@ fn sums_at_the_ends_of_the_range(rt: HostRuntime) -> Result<(), Fail> {
     Ok(())
 }
 
+/// Sums of which the parts are out of range, but not those of the quotients by the common factor, with a number added to
+/// both operands.
+fn check_factors<K: Kind>(
+    rt: &impl Abort,
+    builder: &mut Builder<K, SoloStore>,
+    added: Weight,
+) -> Result<(), Fail> {
+    let factor = number(rt, 1 << 64);
+    let twice = factor.add(factor)?;
+    let steep = Term::Multiple(factor, &Y);
+    let plane = Term::Sum(&X, &steep);
+    let multiple = Term::Multiple(factor, &plane);
+    let multiple_of_x = Term::Multiple(factor, &X);
+    let halved = Term::Multiple(number(rt, 1 << 63), &Y);
+    let half = Term::Sum(&X, &halved);
+    let sum = Term::Multiple(twice, &half);
+    let constant = Term::Constant(added);
+    let first = Term::Sum(&constant, &multiple);
+    let second = Term::Sum(&constant, &multiple_of_x);
+    let constants = Term::Constant(added.add(added)?);
+    assert!(rt;
+        are_same(
+            rt,
+            builder,
+            &Term::Sum(&first, &second),
+            &Term::Sum(&constants, &sum)
+        )?
+    );
+    let negative = Term::Multiple(twice.neg(), &plane);
+    let difference = Term::Sum(&negative, &multiple);
+    assert!(rt; are_same(rt, builder, &difference, &Term::Negative(&multiple))?);
+    assert!(rt;
+        are_same(
+            rt,
+            builder,
+            &Term::Sum(&difference, &multiple),
+            &Term::Constant(Weight::ZERO)
+        )?
+    );
+    Ok(())
+}
+
+#[test]
+fn sums_under_a_common_factor(rt: HostRuntime) -> Result<(), Fail> {
+    let star_bmd = &mut two_levels::<StarBmd>(rt.alloc(), &POSITIVE, 100, 4)?;
+    check_factors(&rt, star_bmd, Weight::ZERO)?;
+    for letter in [Decomp::S, Decomp::P] {
+        let k_star_bmd = &mut two_levels::<KStarBmd>(rt.alloc(), &[letter, letter], 100, 4)?;
+        check_factors(&rt, k_star_bmd, Weight::ZERO)?;
+        check_factors(&rt, k_star_bmd, Weight::ONE)?;
+    }
+    Ok(())
+}
+
 /// Whether the product of `a*x` and `b*y` is `c*x*y`.
 fn multiplies_to<K: Kind>(
     rt: &impl Abort,

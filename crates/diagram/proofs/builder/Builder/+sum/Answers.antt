@@ -13,12 +13,13 @@ use Rattle.diagram.specs.declared.walk.Walk.{Walk}
 use Rattle.diagram.specs.declared.walk.Walk.TheVariants.{Stripping}
 use Rattle.diagram.proofs.BothLaws.{constant_is, constants_answer, HaveNode, can_part_first, can_part_second, parts_lie_below}
 use Rattle.diagram.proofs.CallLaws.{same_keeps, both_of_parts, both_unfit}
+use Rattle.diagram.proofs.FactoredSums.{AreQuotients, common_factor, common_nonzero, common_divides_first, common_divides_second, may_scale_factor, may_scale_first, may_scale_second, common_quotients, quotient_good, quotient_node, quotients_refuse, factor_overflows, factor_put_back}
 use Rattle.diagram.proofs.LevelLaws.{still_edge}
 use Rattle.diagram.specs.declared.operation.Operation.TheVariants.{Sum}
 use Rattle.diagram.proofs.RememberedLaws.{known_both, both_result}
 use Rattle.diagram.proofs.ShiftLaws.{unshifted_good}
 use Rattle.diagram.proofs.StoreLaws.{keeps_on, keeps_itself}
-use Rattle.diagram.proofs.StrippedSums.{IsStripped, shifts_overflow, rests_refuse, put_overflows, shifts_put_back}
+use Rattle.diagram.proofs.StrippedSums.{IsStripped, overflows_anyway, rests_refuse, put_overflows, shifts_put_back}
 use Rattle.diagram.proofs.SumLaws.{sum_by_halves, sum_covers_sum, sum_covers_operands}
 use Rattle.diagram.proofs.SumCalls.{refused_both, low_refuses, high_refuses, sum_joins, sums_can_join, falls_to_high}
 use Rattle.diagram.proofs.builder.Builder.+sum.Goals as goal
@@ -201,7 +202,7 @@ sum_at-sum_by-requires-2 g t c = λ lives bounds.
     let b = plain g.K.Kind.extra_of c.args.parts.high.1 in
     let falls = falls_to_high k v w c.args.level (plain_parts g.K.Kind.extra_of c.args.parts) c.requires c.in_ok-low.ensures.keeps in
     let keeps = c.in_ok-low.ensures.keeps in
-    (subst (λ (n : ℕ). 5 * (length w.letters - min (top_of w a.node) (top_of w b.node)) + 4 < n) c.decreases falls, (bounds.0, (bounds.1.0, (bounds.1.1, (search rules, (search rules, (search rules, (search rules, (still_edge k v w a keeps c.requires.first_high.good, still_edge k v w b keeps c.requires.second_high.good)))))))))
+    (subst (λ (n : ℕ). 7 * (length w.letters - min (top_of w a.node) (top_of w b.node)) + 6 < n) c.decreases falls, (bounds.0, (bounds.1.0, (bounds.1.1, (search rules, (search rules, (search rules, (search rules, (still_edge k v w a keeps c.requires.first_high.good, still_edge k v w b keeps c.requires.second_high.good)))))))))
 
 pub sum_by-returns-in-Stripping-clause-sum : goal.sum_by-returns-in-Stripping-clause-sum
 sum_by-returns-in-Stripping-clause-sum g t c =
@@ -221,16 +222,16 @@ sum_of_rests-returns-in_err-shift-clause-sum g t c =
     let a = plain g.K.Kind.extra_of c.args.a in
     let b = plain g.K.Kind.extra_of c.args.b in
     refused_both k plus (sum_work Stripping) v v a b (plain g.K.Kind.extra_of) c.from_residual.result limit.Overflow c.from_residual.ensures.1
-    (shifts_overflow k v a b)
+    (overflows_anyway k v a b)
 
-pub sum_of_rests-sum_of-requires-clause-a_good : goal.sum_of_rests-sum_of-requires-clause-a_good
-sum_of_rests-sum_of-requires-clause-a_good g t c = λ lives bounds.
+pub sum_of_rests-sum_of_multiples-requires-clause-a_good : goal.sum_of_rests-sum_of_multiples-requires-clause-a_good
+sum_of_rests-sum_of_multiples-requires-clause-a_good g t c = λ lives bounds.
     let k = g.K.Kind.NAME in
     let v = c.args.self.now in
     subst (IsEdge k v) (sym c.take_shift-first_shift.ensures.rest) (unshifted_good k v (plain g.K.Kind.extra_of c.args.a) c.requires.a_good)
 
-pub sum_of_rests-sum_of-requires-clause-b_good : goal.sum_of_rests-sum_of-requires-clause-b_good
-sum_of_rests-sum_of-requires-clause-b_good g t c = λ lives bounds.
+pub sum_of_rests-sum_of_multiples-requires-clause-b_good : goal.sum_of_rests-sum_of_multiples-requires-clause-b_good
+sum_of_rests-sum_of_multiples-requires-clause-b_good g t c = λ lives bounds.
     let k = g.K.Kind.NAME in
     let v = c.args.self.now in
     subst (IsEdge k v) (sym c.take_shift-second_shift.ensures.rest) (unshifted_good k v (plain g.K.Kind.extra_of c.args.b) c.requires.b_good)
@@ -239,7 +240,7 @@ pub sum_of_rests-returns-in_err-rest-clause-sum : goal.sum_of_rests-returns-in_e
 sum_of_rests-returns-in_err-rest-clause-sum g t c =
     let k = g.K.Kind.NAME in
     let v = c.args.self.now in
-    let w = c.sum_of.new.self in
+    let w = c.sum_of_multiples.new.self in
     let a = plain g.K.Kind.extra_of c.args.a in
     let b = plain g.K.Kind.extra_of c.args.b in
     refused_both k plus (sum_work Stripping) v w a b (plain g.K.Kind.extra_of) c.from_residual-in_err-rest.result c.in_err-rest.field-0.0
@@ -251,7 +252,7 @@ pub sum_of_rests-returns-in_err-put_shift-clause-sum : goal.sum_of_rests-returns
 sum_of_rests-returns-in_err-put_shift-clause-sum g t c =
     let k = g.K.Kind.NAME in
     let v = c.args.self.now in
-    let w = c.sum_of.new.self in
+    let w = c.sum_of_multiples.new.self in
     let a = plain g.K.Kind.extra_of c.args.a in
     let b = plain g.K.Kind.extra_of c.args.b in
     let rest = plain g.K.Kind.extra_of c.in_ok-rest.rest in
@@ -264,7 +265,7 @@ pub sum_of_rests-returns-clause-sum : goal.sum_of_rests-returns-clause-sum
 sum_of_rests-returns-clause-sum g t c =
     let k = g.K.Kind.NAME in
     let v = c.args.self.now in
-    let w = c.sum_of.new.self in
+    let w = c.sum_of_multiples.new.self in
     let a = plain g.K.Kind.extra_of c.args.a in
     let b = plain g.K.Kind.extra_of c.args.b in
     let rest = plain g.K.Kind.extra_of c.in_ok-rest.rest in
@@ -274,3 +275,251 @@ sum_of_rests-returns-clause-sum g t c =
     let shift = c.in_ok-shift.ensures.1 ∙ ap (λ (x : ℤ). x +ℤ c.take_shift-second_shift.result.0) first.shift ∙ ap (λ (y : ℤ). shift_of k a.root +ℤ y) second.shift in
     shifts_put_back k v w a b rest sum c.in_ok-shift.shift c.in_ok-rest.ensures.keeps shift c.in_ok-put_shift.ensures.1
     (of_rests k v w a b _ _ (Ok rest) first.rest second.rest c.in_ok-rest.ensures.sum)
+
+pub sum_of_multiples-returns-in-Some-clause-sum : goal.sum_of_multiples-returns-in-Some-clause-sum
+sum_of_multiples-returns-in-Some-clause-sum g t c =
+    let k = g.K.Kind.NAME in
+    let v = c.args.self.now in
+    let a = plain g.K.Kind.extra_of c.args.a in
+    let b = plain g.K.Kind.extra_of c.args.b in
+    known_both Sum k (sum_work Stripping) v a b (plain g.K.Kind.extra_of c.in-Some.sum) c.in-Some.ensures
+
+pub sum_of_quotients-exact_div-requires-clause-nonzero : goal.sum_of_quotients-exact_div-requires-clause-nonzero
+sum_of_quotients-exact_div-requires-clause-nonzero g t c =
+    let k = g.K.Kind.NAME in
+    let v = c.args.self.now in
+    let a = plain g.K.Kind.extra_of c.args.a in
+    let b = plain g.K.Kind.extra_of c.args.b in
+    let s = c.take_scale-first_factor.result.0 in
+    let r = c.take_scale-second_factor.result.0 in
+    let factor = c.signed_gcd-factor.result in
+    let common = common_factor k v s r factor a b c.requires.a_good c.requires.b_good c.requires.some c.take_scale-first_factor.ensures.scale
+    c.take_scale-second_factor.ensures.scale c.signed_gcd-factor.ensures in
+    common_nonzero k s r factor a b common
+
+pub sum_of_quotients-exact_div-requires-clause-divides : goal.sum_of_quotients-exact_div-requires-clause-divides
+sum_of_quotients-exact_div-requires-clause-divides g t c =
+    let k = g.K.Kind.NAME in
+    let v = c.args.self.now in
+    let a = plain g.K.Kind.extra_of c.args.a in
+    let b = plain g.K.Kind.extra_of c.args.b in
+    let s = c.take_scale-first_factor.result.0 in
+    let r = c.take_scale-second_factor.result.0 in
+    let factor = c.signed_gcd-factor.result in
+    let common = common_factor k v s r factor a b c.requires.a_good c.requires.b_good c.requires.some c.take_scale-first_factor.ensures.scale
+    c.take_scale-second_factor.ensures.scale c.signed_gcd-factor.ensures in
+    common_divides_first k s r factor a b common
+
+pub sum_of_quotients-put_scale-requires : goal.sum_of_quotients-put_scale-requires
+sum_of_quotients-put_scale-requires g t c =
+    let k = g.K.Kind.NAME in
+    let v = c.args.self.now in
+    let a = plain g.K.Kind.extra_of c.args.a in
+    let b = plain g.K.Kind.extra_of c.args.b in
+    let s = c.take_scale-first_factor.result.0 in
+    let r = c.take_scale-second_factor.result.0 in
+    let factor = c.signed_gcd-factor.result in
+    let common = common_factor k v s r factor a b c.requires.a_good c.requires.b_good c.requires.some c.take_scale-first_factor.ensures.scale
+    c.take_scale-second_factor.ensures.scale c.signed_gcd-factor.ensures in
+    may_scale_first k s r factor _ a b common c.exact_div.ensures.exact
+
+pub sum_of_quotients-exact_div-requires-2-clause-nonzero : goal.sum_of_quotients-exact_div-requires-2-clause-nonzero
+sum_of_quotients-exact_div-requires-2-clause-nonzero g t c =
+    let k = g.K.Kind.NAME in
+    let v = c.args.self.now in
+    let a = plain g.K.Kind.extra_of c.args.a in
+    let b = plain g.K.Kind.extra_of c.args.b in
+    let s = c.take_scale-first_factor.result.0 in
+    let r = c.take_scale-second_factor.result.0 in
+    let factor = c.signed_gcd-factor.result in
+    let common = common_factor k v s r factor a b c.requires.a_good c.requires.b_good c.requires.some c.take_scale-first_factor.ensures.scale
+    c.take_scale-second_factor.ensures.scale c.signed_gcd-factor.ensures in
+    common_nonzero k s r factor a b common
+
+pub sum_of_quotients-exact_div-requires-2-clause-divides : goal.sum_of_quotients-exact_div-requires-2-clause-divides
+sum_of_quotients-exact_div-requires-2-clause-divides g t c =
+    let k = g.K.Kind.NAME in
+    let v = c.args.self.now in
+    let a = plain g.K.Kind.extra_of c.args.a in
+    let b = plain g.K.Kind.extra_of c.args.b in
+    let s = c.take_scale-first_factor.result.0 in
+    let r = c.take_scale-second_factor.result.0 in
+    let factor = c.signed_gcd-factor.result in
+    let common = common_factor k v s r factor a b c.requires.a_good c.requires.b_good c.requires.some c.take_scale-first_factor.ensures.scale
+    c.take_scale-second_factor.ensures.scale c.signed_gcd-factor.ensures in
+    common_divides_second k s r factor a b common
+
+pub sum_of_quotients-put_scale-requires-2 : goal.sum_of_quotients-put_scale-requires-2
+sum_of_quotients-put_scale-requires-2 g t c =
+    let k = g.K.Kind.NAME in
+    let v = c.args.self.now in
+    let a = plain g.K.Kind.extra_of c.args.a in
+    let b = plain g.K.Kind.extra_of c.args.b in
+    let s = c.take_scale-first_factor.result.0 in
+    let r = c.take_scale-second_factor.result.0 in
+    let factor = c.signed_gcd-factor.result in
+    let common = common_factor k v s r factor a b c.requires.a_good c.requires.b_good c.requires.some c.take_scale-first_factor.ensures.scale
+    c.take_scale-second_factor.ensures.scale c.signed_gcd-factor.ensures in
+    may_scale_second k s r factor _ a b common c.exact_div-2.ensures.exact
+
+pub sum_of_quotients-put_scale-requires-3 : goal.sum_of_quotients-put_scale-requires-3
+sum_of_quotients-put_scale-requires-3 g t c =
+    let k = g.K.Kind.NAME in
+    let v = c.args.self.now in
+    let a = plain g.K.Kind.extra_of c.args.a in
+    let b = plain g.K.Kind.extra_of c.args.b in
+    let s = c.take_scale-first_factor.result.0 in
+    let r = c.take_scale-second_factor.result.0 in
+    let factor = c.signed_gcd-factor.result in
+    let common = common_factor k v s r factor a b c.requires.a_good c.requires.b_good c.requires.some c.take_scale-first_factor.ensures.scale
+    c.take_scale-second_factor.ensures.scale c.signed_gcd-factor.ensures in
+    may_scale_factor k s r factor a b common
+
+pub sum_of_quotients-returns-in_err-first-clause-keeps : goal.sum_of_quotients-returns-in_err-first-clause-keeps
+sum_of_quotients-returns-in_err-first-clause-keeps g t c = keeps_itself c.args.self.now
+
+pub sum_of_quotients-returns-in_err-first-clause-sum : goal.sum_of_quotients-returns-in_err-first-clause-sum
+sum_of_quotients-returns-in_err-first-clause-sum g t c =
+    let k = g.K.Kind.NAME in
+    let v = c.args.self.now in
+    let a = plain g.K.Kind.extra_of c.args.a in
+    let b = plain g.K.Kind.extra_of c.args.b in
+    refused_both k plus (sum_work Stripping) v v a b (plain g.K.Kind.extra_of) c.from_residual.result limit.Overflow c.from_residual.ensures.1
+    (overflows_anyway k v a b)
+
+pub sum_of_quotients-returns-in_err-second-clause-keeps : goal.sum_of_quotients-returns-in_err-second-clause-keeps
+sum_of_quotients-returns-in_err-second-clause-keeps g t c = keeps_itself c.args.self.now
+
+pub sum_of_quotients-returns-in_err-second-clause-sum : goal.sum_of_quotients-returns-in_err-second-clause-sum
+sum_of_quotients-returns-in_err-second-clause-sum g t c =
+    let k = g.K.Kind.NAME in
+    let v = c.args.self.now in
+    let a = plain g.K.Kind.extra_of c.args.a in
+    let b = plain g.K.Kind.extra_of c.args.b in
+    refused_both k plus (sum_work Stripping) v v a b (plain g.K.Kind.extra_of) c.from_residual-in_err-second.result limit.Overflow c.from_residual-in_err-second.ensures.1
+    (overflows_anyway k v a b)
+
+pub sum_of_quotients-sum_of-requires-clause-a_good : goal.sum_of_quotients-sum_of-requires-clause-a_good
+sum_of_quotients-sum_of-requires-clause-a_good g t c = λ lives bounds.
+    let k = g.K.Kind.NAME in
+    let v = c.args.self.now in
+    let a = plain g.K.Kind.extra_of c.args.a in
+    let b = plain g.K.Kind.extra_of c.args.b in
+    let s = c.take_scale-first_factor.result.0 in
+    let r = c.take_scale-second_factor.result.0 in
+    let factor = c.signed_gcd-factor.result in
+    let common = common_factor k v s r factor a b c.requires.a_good c.requires.b_good c.requires.some c.take_scale-first_factor.ensures.scale
+    c.take_scale-second_factor.ensures.scale c.signed_gcd-factor.ensures in
+    let x = plain g.K.Kind.extra_of c.in_ok-first.first in
+    let y = plain g.K.Kind.extra_of c.in_ok-second.second in
+    let are : AreQuotients k factor a b x y = common_quotients k s r factor _ _ a b _ _ x y common
+    (record { exact = c.exact_div.ensures.exact; rest_is = c.take_scale-first_factor.ensures.rest; is = c.in_ok-first.ensures.1 })
+    (record { exact = c.exact_div-2.ensures.exact; rest_is = c.take_scale-second_factor.ensures.rest; is = c.in_ok-second.ensures.1 }) in
+    quotient_good k v factor a x are.first c.requires.a_good
+
+pub sum_of_quotients-sum_of-requires-clause-b_good : goal.sum_of_quotients-sum_of-requires-clause-b_good
+sum_of_quotients-sum_of-requires-clause-b_good g t c = λ lives bounds.
+    let k = g.K.Kind.NAME in
+    let v = c.args.self.now in
+    let a = plain g.K.Kind.extra_of c.args.a in
+    let b = plain g.K.Kind.extra_of c.args.b in
+    let s = c.take_scale-first_factor.result.0 in
+    let r = c.take_scale-second_factor.result.0 in
+    let factor = c.signed_gcd-factor.result in
+    let common = common_factor k v s r factor a b c.requires.a_good c.requires.b_good c.requires.some c.take_scale-first_factor.ensures.scale
+    c.take_scale-second_factor.ensures.scale c.signed_gcd-factor.ensures in
+    let x = plain g.K.Kind.extra_of c.in_ok-first.first in
+    let y = plain g.K.Kind.extra_of c.in_ok-second.second in
+    let are : AreQuotients k factor a b x y = common_quotients k s r factor _ _ a b _ _ x y common
+    (record { exact = c.exact_div.ensures.exact; rest_is = c.take_scale-first_factor.ensures.rest; is = c.in_ok-first.ensures.1 })
+    (record { exact = c.exact_div-2.ensures.exact; rest_is = c.take_scale-second_factor.ensures.rest; is = c.in_ok-second.ensures.1 }) in
+    quotient_good k v factor b y are.second c.requires.b_good
+
+pub sum_of_quotients-sum_of-requires-clause-some_node : goal.sum_of_quotients-sum_of-requires-clause-some_node
+sum_of_quotients-sum_of-requires-clause-some_node g t c = λ lives bounds.
+    let k = g.K.Kind.NAME in
+    let v = c.args.self.now in
+    let a = plain g.K.Kind.extra_of c.args.a in
+    let b = plain g.K.Kind.extra_of c.args.b in
+    let s = c.take_scale-first_factor.result.0 in
+    let r = c.take_scale-second_factor.result.0 in
+    let factor = c.signed_gcd-factor.result in
+    let common = common_factor k v s r factor a b c.requires.a_good c.requires.b_good c.requires.some c.take_scale-first_factor.ensures.scale
+    c.take_scale-second_factor.ensures.scale c.signed_gcd-factor.ensures in
+    let x = plain g.K.Kind.extra_of c.in_ok-first.first in
+    let y = plain g.K.Kind.extra_of c.in_ok-second.second in
+    let are : AreQuotients k factor a b x y = common_quotients k s r factor _ _ a b _ _ x y common
+    (record { exact = c.exact_div.ensures.exact; rest_is = c.take_scale-first_factor.ensures.rest; is = c.in_ok-first.ensures.1 })
+    (record { exact = c.exact_div-2.ensures.exact; rest_is = c.take_scale-second_factor.ensures.rest; is = c.in_ok-second.ensures.1 }) in
+    λ none. c.requires.some_node (sym (quotient_node k factor a x are.first) ∙ none.0, sym (quotient_node k factor b y are.second) ∙ none.1)
+
+pub sum_of_quotients-returns-in_err-quotient-clause-sum : goal.sum_of_quotients-returns-in_err-quotient-clause-sum
+sum_of_quotients-returns-in_err-quotient-clause-sum g t c =
+    let k = g.K.Kind.NAME in
+    let v = c.args.self.now in
+    let a = plain g.K.Kind.extra_of c.args.a in
+    let b = plain g.K.Kind.extra_of c.args.b in
+    let s = c.take_scale-first_factor.result.0 in
+    let r = c.take_scale-second_factor.result.0 in
+    let factor = c.signed_gcd-factor.result in
+    let common = common_factor k v s r factor a b c.requires.a_good c.requires.b_good c.requires.some c.take_scale-first_factor.ensures.scale
+    c.take_scale-second_factor.ensures.scale c.signed_gcd-factor.ensures in
+    let x = plain g.K.Kind.extra_of c.in_ok-first.first in
+    let y = plain g.K.Kind.extra_of c.in_ok-second.second in
+    let are : AreQuotients k factor a b x y = common_quotients k s r factor _ _ a b _ _ x y common
+    (record { exact = c.exact_div.ensures.exact; rest_is = c.take_scale-first_factor.ensures.rest; is = c.in_ok-first.ensures.1 })
+    (record { exact = c.exact_div-2.ensures.exact; rest_is = c.take_scale-second_factor.ensures.rest; is = c.in_ok-second.ensures.1 }) in
+    let w = c.sum_of.new.self in
+    refused_both k plus (sum_work Stripping) v w a b (plain g.K.Kind.extra_of) c.from_residual-in_err-quotient.result c.in_err-quotient.field-0.0
+    c.from_residual-in_err-quotient.ensures.1
+    (quotients_refuse k v w factor a b x y c.in_err-quotient.field-0.0 are c.in_err-quotient.ensures.keeps c.in_err-quotient.ensures.sum)
+
+pub sum_of_quotients-returns-in_err-put_scale-clause-sum : goal.sum_of_quotients-returns-in_err-put_scale-clause-sum
+sum_of_quotients-returns-in_err-put_scale-clause-sum g t c =
+    let k = g.K.Kind.NAME in
+    let v = c.args.self.now in
+    let a = plain g.K.Kind.extra_of c.args.a in
+    let b = plain g.K.Kind.extra_of c.args.b in
+    let s = c.take_scale-first_factor.result.0 in
+    let r = c.take_scale-second_factor.result.0 in
+    let factor = c.signed_gcd-factor.result in
+    let common = common_factor k v s r factor a b c.requires.a_good c.requires.b_good c.requires.some c.take_scale-first_factor.ensures.scale
+    c.take_scale-second_factor.ensures.scale c.signed_gcd-factor.ensures in
+    let x = plain g.K.Kind.extra_of c.in_ok-first.first in
+    let y = plain g.K.Kind.extra_of c.in_ok-second.second in
+    let are : AreQuotients k factor a b x y = common_quotients k s r factor _ _ a b _ _ x y common
+    (record { exact = c.exact_div.ensures.exact; rest_is = c.take_scale-first_factor.ensures.rest; is = c.in_ok-first.ensures.1 })
+    (record { exact = c.exact_div-2.ensures.exact; rest_is = c.take_scale-second_factor.ensures.rest; is = c.in_ok-second.ensures.1 }) in
+    let w = c.sum_of.new.self in
+    refused_both k plus (sum_work Stripping) v w a b (plain g.K.Kind.extra_of) c.from_residual-in_err-put_scale.result limit.Overflow
+    c.from_residual-in_err-put_scale.ensures.1
+    (factor_overflows k v w factor a b x y (plain g.K.Kind.extra_of c.in_ok-quotient.quotient) are c.in_ok-quotient.ensures.keeps c.in_ok-quotient.ensures.sum)
+
+pub sum_of_quotients-returns-clause-sum : goal.sum_of_quotients-returns-clause-sum
+sum_of_quotients-returns-clause-sum g t c =
+    let k = g.K.Kind.NAME in
+    let v = c.args.self.now in
+    let a = plain g.K.Kind.extra_of c.args.a in
+    let b = plain g.K.Kind.extra_of c.args.b in
+    let s = c.take_scale-first_factor.result.0 in
+    let r = c.take_scale-second_factor.result.0 in
+    let factor = c.signed_gcd-factor.result in
+    let common = common_factor k v s r factor a b c.requires.a_good c.requires.b_good c.requires.some c.take_scale-first_factor.ensures.scale
+    c.take_scale-second_factor.ensures.scale c.signed_gcd-factor.ensures in
+    let x = plain g.K.Kind.extra_of c.in_ok-first.first in
+    let y = plain g.K.Kind.extra_of c.in_ok-second.second in
+    let are : AreQuotients k factor a b x y = common_quotients k s r factor _ _ a b _ _ x y common
+    (record { exact = c.exact_div.ensures.exact; rest_is = c.take_scale-first_factor.ensures.rest; is = c.in_ok-first.ensures.1 })
+    (record { exact = c.exact_div-2.ensures.exact; rest_is = c.take_scale-second_factor.ensures.rest; is = c.in_ok-second.ensures.1 }) in
+    let w = c.sum_of.new.self in
+    factor_put_back k v w factor a b x y (plain g.K.Kind.extra_of c.in_ok-quotient.quotient) (plain g.K.Kind.extra_of c.in_ok-put_scale.field-0) are
+    c.in_ok-quotient.ensures.keeps c.in_ok-put_scale.ensures.1 c.in_ok-quotient.ensures.sum
+
+pub sum_of_quotients-returns-in_err-quotient-clause-keeps : goal.sum_of_quotients-returns-in_err-quotient-clause-keeps
+sum_of_quotients-returns-in_err-quotient-clause-keeps g t c = c.in_err-quotient.ensures.keeps
+
+pub sum_of_quotients-returns-in_err-put_scale-clause-keeps : goal.sum_of_quotients-returns-in_err-put_scale-clause-keeps
+sum_of_quotients-returns-in_err-put_scale-clause-keeps g t c = c.in_ok-quotient.ensures.keeps
+
+pub sum_of_quotients-returns-clause-keeps : goal.sum_of_quotients-returns-clause-keeps
+sum_of_quotients-returns-clause-keeps g t c = c.in_ok-quotient.ensures.keeps

@@ -15,3 +15,9 @@ returns-then-is_constant-2 g c =
     let a = plain g.K.Kind.extra_of c.args.a in
     let b = plain g.K.Kind.extra_of c.args.b in
     swapped Sum k v b a a (sum_with_zero k v b a (c.if-is_constant-2.ensures.0 refl))
+
+pub returns : goal.returns
+returns g c = record {
+  first = λ e. let is = c.if-is_constant.ensures.1 e in absurd (cc);
+  second = λ e. let is = c.if-is_constant-2.ensures.1 e in absurd (cc);
+}
