@@ -1,5 +1,5 @@
 -- Stamps as those of more ids.
-use Rattle.std.proofs.Common.{◌≡◌, refl, sym, ◌∙◌, ap, subst, ℕ, zero, suc, ◌+◌, ◌-◌, ◌<◌, ◌≤◌, ◌^◌, List, [], ◌∷◌, ◌++◌, Bool, false, length, Some, get_or, set, arith, length-set}
+use Rattle.std.proofs.Common.{◌≡◌, refl, sym, ◌∙◌, ap, subst, ℕ, zero, suc, ◌+◌, ◌-◌, ◌<◌, ◌≤◌, ◌^◌, List, [], ◌∷◌, ◌++◌, false, length, Some, get_or, set, arith, length-set}
 use Rattle.std.specs.Prelude.{◌==◌, replicate}
 use Rattle.std.proofs.lemmas.Bool.{false_from_ne_true, eqb-true}
 use Rattle.std.proofs.lemmas.List.{length-append, length-replicate, append_assoc, append-nil, replicate-append-replicate, set-append_left, get_or_past}

@@ -1,4 +1,4 @@
-use Rattle.std.proofs.Common.{◌≡◌, sym, subst, ◌∙◌, ap, ℕ, ◌-◌, ◌<◌, ◌≤◌, List, Bool, false, length, get_or}
+use Rattle.std.proofs.Common.{◌≡◌, sym, subst, ◌∙◌, ap, ℕ, ◌-◌, ◌<◌, ◌≤◌, List, Bool, length, get_or}
 use Rattle.std.proofs.lemmas.Bool.{ltb-true, ltb-false}
 use Rattle.marks.specs.Marked.{is_marked}
 use Rattle.marks.proofs.PaddedLaws.{marked_by, not_marked}

@@ -1,4 +1,4 @@
-use Rattle.std.proofs.Common.{◌≡◌, sym, subst, ap, ◌∙◌, ℕ, List, [], arith}
+use Rattle.std.proofs.Common.{sym, subst, ap, ◌∙◌, ℕ, List, arith}
 use Rattle.std.specs.Vec.{vec_capacity}
 use Rattle.marks.specs.Inside.{marked_under, padded, IsStored}
 use Rattle.marks.proofs.MarkLaws.{zeros_unmarked}
