@@ -91,6 +91,10 @@ stored_mark stamps cells stamp count capacity id held above within free = record
   capacious = held.capacious;
 }
 
+pub padded_zeros : (n cells : ℕ) → n ≤ cells → padded (replicate n 0) cells ≡ replicate cells 0
+padded_zeros n cells within =
+    ap (λ zeros. padded zeros cells) (sym (padded_none n)) ∙ padded_twice [] n cells within ∙ padded_none cells
+
 -- no stamps are those of no marks
 pub none_stored : (cells stamp capacity : ℕ) → 0 < stamp → cells < 2 ^ 32 → cells ≤ capacity → IsStored [] cells stamp 0 capacity
 none_stored cells stamp capacity some few capacious =

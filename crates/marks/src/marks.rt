@@ -53,7 +53,7 @@ impl Marks {
         ensures { self.new ≡ none_of (length self.old) }
     {
         if self.stamp == u32::MAX {
-            self.stamps.clear();
+            self.stamps.fill(0);
             self.stamp = 0;
         }
         self.stamp += 1;

@@ -1,12 +1,12 @@
-use Rattle.std.proofs.Common.{◌≡◌, refl, sym, subst, ap, ◌∙◌, ℕ, ◌<◌, ◌≤◌, ◌^◌, List, [], length, arith}
-use Rattle.std.specs.Prelude.{◌==◌}
+use Rattle.std.proofs.Common.{◌≡◌, refl, sym, subst, ap, ◌∙◌, ℕ, ◌<◌, ◌≤◌, ◌^◌, List, length, arith}
+use Rattle.std.specs.Prelude.{◌==◌, replicate}
 use Rattle.std.specs.Vec.{vec_capacity}
-use Rattle.std.proofs.lemmas.List.{length-map}
+use Rattle.std.proofs.lemmas.List.{length-map, length-replicate}
 use Rattle.marks.specs.Inside.{padded}
 use Rattle.marks.specs.Marked.{none_of}
 use Rattle.marks.specs.declared.marks.Marks.TheInside.{Inside}
 use Rattle.marks.proofs.MarkLaws.{AreUsed, zeros_used, cleared_sound, none_marked}
-use Rattle.marks.proofs.PaddedLaws.{length-padded, padded_none}
+use Rattle.marks.proofs.PaddedLaws.{length-padded, padded_zeros}
 use Rattle.marks.proofs.marks.Marks.clear.Goals as goal
 use Rattle.marks.proofs.marks.Marks.clear.Goals.{then-self, else-self}
 
@@ -17,10 +17,11 @@ record IsReady (old new : Inside) : Type 0 where
   capacious : new.cells ≤ vec_capacity new.stamps
   same_cells : new.cells ≡ old.cells
 
-emptied : (old new : Inside) → new.stamps.items ≡ [] → new.cells ≡ old.cells → vec_capacity new.stamps ≡ vec_capacity old.stamps → old.cells ≤ vec_capacity old.stamps → IsReady old new
-emptied old new none cells capacity capacious = record {
-  used = subst (λ (ss : List ℕ). AreUsed ss new.stamp) (sym (ap (λ (ss : List ℕ). padded ss new.cells) none ∙ padded_none new.cells)) (zeros_used new.cells new.stamp);
-  within = omega (arith, ap length none);
+filled : (old new : Inside) (n : ℕ) → new.stamps.items ≡ replicate n 0 → n ≡ length old.stamps.items → new.cells ≡ old.cells → vec_capacity new.stamps ≡ vec_capacity old.stamps →
+    length old.stamps.items ≤ old.cells → old.cells ≤ vec_capacity old.stamps → IsReady old new
+filled old new n zeros same cells capacity within capacious = record {
+  used = subst (λ (ss : List ℕ). AreUsed ss new.stamp) (sym (ap (λ (ss : List ℕ). padded ss new.cells) zeros ∙ padded_zeros n new.cells (omega arith))) (zeros_used new.cells new.stamp);
+  within = omega (arith, ap length zeros, length-replicate {A = ℕ} n 0);
   capacious = omega arith;
   same_cells = cells;
 }
@@ -34,8 +35,8 @@ ready c =
     let new = c.if-self.self-inside in
     let held = c.self.invariant in
     elim c.if-self.branch as (λ _. IsReady old new) [
-      | then-self w ↦ emptied old new (ap (λ (x : Inside). x.stamps.items) w.self-inside-is ∙ w.clear.ensures.items) (ap (λ (x : Inside). x.cells) w.self-inside-is)
-          (ap (λ (x : Inside). vec_capacity x.stamps) w.self-inside-is ∙ w.clear.ensures.capacity) held.capacious
+      | then-self w ↦ filled old new _ (ap (λ (x : Inside). x.stamps.items) w.self-inside-is ∙ w.fill.ensures.items (λ y e. e)) old.stamps.ok.0 (ap (λ (x : Inside). x.cells) w.self-inside-is)
+          (ap (λ (x : Inside). vec_capacity x.stamps) w.self-inside-is ∙ w.fill.ensures.capacity) held.within held.capacious
       | else-self w ↦ kept old new w.self-inside-is (record { used = held.sound.used; within = held.within; capacious = held.capacious; same_cells = refl })
     ]
 
