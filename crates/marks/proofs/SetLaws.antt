@@ -1,7 +1,6 @@
 -- Which ids a set has, and how many, where it is empty and after one more is put in.
 use Rattle.std.proofs.Common.{◌≡◌, refl, sym, ◌∙◌, ap, ℕ, zero, suc, ◌+◌, ◌-◌, ◌<◌, ◌≤◌, List, [], ◌∷◌, Bool, true, false, length, get_or, set, arith, get_or-set_same, get_or-set_other, inl, inr}
 use Rattle.std.specs.Prelude.{◌⊎◌, cond}
-use Rattle.std.specs.List.{count_by}
 use Rattle.std.proofs.lemmas.Bool.{cases_eq}
 use Rattle.std.proofs.lemmas.List.Sums.{sum_by-cons}
 use Rattle.marks.specs.Marked.{none_of, is_marked, with_mark, marked_count}

@@ -1,4 +1,5 @@
-ghost use Rattle.std.specs.Prelude.{◌≡◌, ◌↔◌, ◌<◌, ◌≤◌, false, length, IfOk, IsTrue};
+ghost use Rattle.std.specs.Prelude.{◌≡◌, ◌↔◌, ◌<◌, ◌≤◌, false, length, vec_capacity, IfOk, IsTrue};
+ghost use Rattle.marks.specs.Inside.{padded};
 ghost use Rattle.marks.specs.Marked.{none_of, is_marked, with_mark, marked_count};
 
 use std::alloc::{AllocError, Global};
@@ -7,21 +8,22 @@ use std::marker::Model;
 /// A set of ids. Each mark is the number of the clearing after which it was made, so that a clearing seldom touches the marks.
 #[derive(Drop)]
 pub struct Marks {
-    /// The stamp under which each id was marked last, 0 for none.
+    /// The stamp under which each id was marked last, 0 for none. The ids past its end have none.
     stamps: Vec<u32>,
+    cells: u32,
     stamp: u32,
     count: u32,
 }
 
 impl Model for Marks {
-    ghost use Rattle.std.specs.Prelude.{Bool, List};
-    ghost use Rattle.marks.specs.Inside.{marked_under, IsSound};
+    ghost use Rattle.std.specs.Prelude.{Bool, List, vec_capacity};
+    ghost use Rattle.marks.specs.Inside.{marked_under, padded, IsStored};
 
     ghost Value = { List Bool };
 
-    ghost view = { λ m. marked_under m.stamp m.stamps.items };
+    ghost view = { λ m. marked_under m.stamp (padded m.stamps.items m.cells) };
 
-    ghost invariant = { λ m. IsSound m.stamps.items m.stamp m.count };
+    ghost invariant = { λ m. IsStored m.stamps.items m.cells m.stamp m.count (vec_capacity m.stamps) };
 }
 
 impl Marks {
@@ -37,9 +39,10 @@ impl Marks {
         requires { 0 < stamp }
         ensures { IfOk result (λ m. m ≡ none_of cells) }
     {
-        let stamps = vec![in alloc; 0; cells as usize]?;
+        let stamps = Vec::with_capacity(alloc, cells as usize)?;
         Ok(Marks {
             stamps,
+            cells,
             stamp,
             count: 0,
         })
@@ -63,16 +66,20 @@ impl Marks {
         requires within { id ≤ length self.now }
         ensures { result ≡ is_marked self.now id }
     {
-        self.stamps[id as usize - 1] == self.stamp
+        match self.stamps.get(id as usize - 1) {
+            Some(stamp) => *stamp == self.stamp,
+            None => false,
+        }
     }
 
-    /// Puts an id into the set, where it is not yet.
+    /// Puts an id into the set, where it is not yet. It takes no memory.
     pub fn mark(&mut self, id: u32)
         requires above { 0 < id }
         requires within { id ≤ length self.old }
         requires free { is_marked self.old id ≡ false }
         ensures { self.new ≡ with_mark self.old id }
     {
+        extend(&mut self.stamps, id as usize);
         self.stamps[id as usize - 1] = self.stamp;
         self.count += 1;
     }
@@ -88,5 +95,16 @@ impl Marks {
         ensures { IsTrue result ↔ (marked_count self.now ≡ 0) }
     {
         self.count == 0
+    }
+}
+
+/// Writes stamps that mark no id behind the stamps, until there are so many.
+fn extend(stamps: &mut Vec<u32>, len: usize)
+    requires { len ≤ vec_capacity stamps.old }
+    ensures items { stamps.new.items ≡ padded stamps.old.items len }
+    ensures capacity { vec_capacity stamps.new ≡ vec_capacity stamps.old }
+{
+    while stamps.len() < len {
+        stamps.push_reserved(0);
     }
 }

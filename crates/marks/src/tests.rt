@@ -43,3 +43,27 @@ fn marks_are_gone_after_the_last_stamp(rt: HostRuntime) -> Result<(), Fail> {
     assert_eq!(rt; marks.len(), 0);
     Ok(())
 }
+
+#[test]
+fn ids_are_marked_from_the_highest_on(rt: HostRuntime) -> Result<(), Fail> {
+    let mut marks = Marks::create(rt.alloc(), 4)?;
+    marks.mark(4);
+    assert_eq!(rt;
+        [marks.has(1), marks.has(2), marks.has(3), marks.has(4)],
+        [false, false, false, true]
+    );
+    marks.mark(2);
+    assert_eq!(rt;
+        [marks.has(1), marks.has(2), marks.has(3), marks.has(4)],
+        [false, true, false, true]
+    );
+    assert_eq!(rt; marks.len(), 2);
+    marks.clear();
+    marks.mark(3);
+    assert_eq!(rt;
+        [marks.has(1), marks.has(2), marks.has(3), marks.has(4)],
+        [false, false, true, false]
+    );
+    assert_eq!(rt; marks.len(), 1);
+    Ok(())
+}
