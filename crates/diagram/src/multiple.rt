@@ -101,7 +101,7 @@ impl<K: Kind, S: Store> Builder<K, S> {
 }
 
 /// Whether the edges of the kind have multiplicative weights.
-fn has_factors<K: Kind>() -> bool
+pub(crate) fn has_factors<K: Kind>() -> bool
     ensures { IsTrue result ↔ (has_factor K.NAME ≡ true) }
 {
     matches!(K::NAME, KindName::StarBmd | KindName::KStarBmd)

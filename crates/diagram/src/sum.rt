@@ -10,6 +10,7 @@ ghost use Rattle.diagram.specs.declared.walk.Walk.TheVariants as by;
 
 use crate::builder::Builder;
 use crate::limit::Limit;
+use crate::multiple::has_factors;
 use crate::operation::Operation;
 use crate::parts::{Parts, are_constants};
 use crate::walk::Walk;
@@ -69,7 +70,7 @@ impl<K: Kind, S: Store> Builder<K, S> {
         Ok(K::put_shift(shift, rest)?)
     }
 
-    /// The sum of two edges, by that of the quotients by their common factor where none is the constant 0.
+    /// The sum of two edges, by that of the quotients by their common factor where edges multiply and none is the constant 0.
     #[cycle(sum)]
     fn sum_of_multiples(&mut self, a: Edge<K>, b: Edge<K>) -> Result<Edge<K>, Limit>
         requires a_good { IsEdge K.NAME self.old (plain K.extra_of a) }
@@ -79,6 +80,9 @@ impl<K: Kind, S: Store> Builder<K, S> {
         ensures sum { IsOfBoth plus (sum_work by.Stripping) K.NAME self.old self.new (plain K.extra_of a) (plain K.extra_of b)
             (answered (plain K.extra_of) result) }
     {
+        if !has_factors::<K>() {
+            return self.sum_of(Walk::Stripping, a, b);
+        }
         match self.sum_at_once(a, b) {
             Some(sum) => Ok(sum),
             None => self.sum_of_quotients(a, b),
