@@ -1,7 +1,7 @@
 #!/usr/bin/env python3
 """Measures the program by kind and size, and prints a table in Markdown.
 
-    bench/measure.py [--limit SECONDS] [--repeat N] [--program FILE]
+    bench/measure.py [--limit SECONDS] [--repeat N] [--cells N] [--program FILE]
 
 It runs `./worddd`, which builds the program where need be, over ripple-carry adders that it makes itself and over the
 multipliers that `gen` makes. A row has the least wall time of N runs, the nodes of the left side's diagram, and the most memory
@@ -19,7 +19,7 @@ from pathlib import Path
 TOP = Path(__file__).resolve().parent.parent
 KINDS = ["evbdd", "star_bmd", "hdd", "k_star_bmd"]
 ADDERS = [8, 16, 32, 64]
-MULTIPLIERS = [2, 3, 4, 5, 6, 8, 10, 12, 16]
+MULTIPLIERS = [2, 3, 4, 5, 6, 7, 8, 9, 10, 12, 16]
 
 
 def adder_netlist(size):
@@ -92,6 +92,7 @@ def main():
     parser = argparse.ArgumentParser(description="Measures the program by kind and size.")
     parser.add_argument("--limit", type=float, default=20)
     parser.add_argument("--repeat", type=int, default=3)
+    parser.add_argument("--cells", type=int, default=262144)
     parser.add_argument("--program", default=str(TOP / "worddd"))
     options = parser.parse_args()
     if subprocess.run([options.program, "gen", "2"], stdout=subprocess.DEVNULL).returncode != 0:
@@ -100,14 +101,17 @@ def main():
     print("|---|---|---|---|---|---|")
     with tempfile.TemporaryDirectory() as folder:
 
+        def command(word, kind):
+            return [options.program, word, "--kind", kind, "--cells", str(options.cells)]
+
         def adder(kind, size):
             netlist, spec = f"{folder}/{size}.bench", f"{folder}/{size}.spec"
             Path(netlist).write_text(adder_netlist(size))
             Path(spec).write_text(adder_specification(size))
-            return [options.program, "check", "--kind", kind, netlist, spec]
+            return [*command("check", kind), netlist, spec]
 
         def multiplier(kind, size):
-            return [options.program, "gen", "--kind", kind, str(size)]
+            return [*command("gen", kind), str(size)]
 
         rows_of("adder", ADDERS, adder, options)
         rows_of("multiplier", MULTIPLIERS, multiplier, options)
