@@ -49,10 +49,11 @@ impl<'t> Store for SharedPass<'t> {
         ensures unchanged { pass_view self.new ≡ pass_view self.old }
         ensures table { IsOneTable self.old self.new }
     {
-        let first = first_word(self.table, &self.place, id);
+        let table = self.table;
+        let first = first_word(table, &self.place, id);
         let mut body = [0; 8];
         for i in 0..8 {
-            body[i] = read_word(self.table, &mut self.place, id, first, i);
+            body[i] = read_word(table, &mut self.place, id, first, i);
         }
         body
     }
