@@ -1,4 +1,4 @@
-ghost use Rattle.std.specs.Prelude.{◌≡◌, ◌<◌, ◌^◌, pos, unsigned_abs};
+ghost use Rattle.std.specs.Prelude.{◌≡◌, ◌<◌, ◌^◌, ◌↔◌, pos, unsigned_abs, IsTrue};
 ghost use Rattle.integers.specs.Gcd.{gcd as divisor, gcd3 as divisor_of_three, leads_negative, signed_gcd as signed_divisor};
 
 use word_base::Weight;
@@ -22,12 +22,22 @@ pub fn gcd3(first: Weight, second: Weight, third: Weight) -> Weight
 pub fn signed_gcd(first: Weight, second: Weight, third: Weight) -> Weight
     ensures { result ≡ signed_divisor first second third }
 {
+    if is_unit(first) {
+        return first;
+    }
     let magnitude = gcd3(first, second, third);
     if is_led_by_negative(first, second, third) {
         magnitude.neg()
     } else {
         magnitude
     }
+}
+
+/// Whether a number is 1 or -1.
+fn is_unit(number: Weight) -> bool
+    ensures { IsTrue result ↔ unsigned_abs number ≡ 1 }
+{
+    number == Weight::ONE || number.get() == -1
 }
 
 /// Whether the first number that is not 0 is negative.

@@ -55,6 +55,57 @@ fn quotients(rt: HostRuntime) {
 }
 
 #[test]
+fn quotients_in_64_bits_and_in_more(rt: HostRuntime) {
+    let least = i128::from(i64::MIN);
+    for (quotient, by) in [
+        (least, 1),
+        (-(1 << 62), 2),
+        (1, least),
+        (-3, -5),
+        (0, -7),
+        // a multiple of more than 64 bits
+        (least, -1),
+        (-1, least),
+        (least, least),
+        (1 << 64, 3),
+        (3, -(1 << 64)),
+    ] {
+        let (quotient, by) = (weight(&rt, quotient), weight(&rt, by));
+        assert!(rt; by != Weight::ZERO);
+        assert_eq!(rt; divided_back(quotient, by), Ok(quotient));
+    }
+}
+
+#[test]
+fn exact_products(rt: HostRuntime) {
+    let (least, most) = (i128::from(i64::MIN), i128::from(i64::MAX));
+    for (first, second, exact) in [
+        (0, i128::MAX, 0),
+        (-3, 5, -15),
+        (least, least, 1 << 126),
+        (least, most, (1 << 63) - (1 << 126)),
+        (most, most, (1 << 126) - (1 << 64) + 1),
+        // more than 64 bits
+        (1 << 63, 1 << 63, 1 << 126),
+        (1 << 63, least - 1, -(1 << 126) - (1 << 63)),
+        (1 << 64, most, i128::MAX - (1 << 64) + 1),
+        (i128::MAX, -1, -i128::MAX),
+    ] {
+        let (first, second) = (weight(&rt, first), weight(&rt, second));
+        assert_eq!(rt; product(first, second), Ok(weight(&rt, exact)));
+    }
+    for (first, second) in [
+        (1 << 64, 1 << 63),
+        (-(1 << 64), 1 << 63),
+        (i128::MAX, 2),
+        (i128::MAX, -i128::MAX),
+    ] {
+        let (first, second) = (weight(&rt, first), weight(&rt, second));
+        assert_eq!(rt; product(first, second), Err(Overflow));
+    }
+}
+
+#[test]
 fn powers_of_two(rt: HostRuntime) {
     assert_eq!(rt; power_of_two(0), Ok(Weight::ONE));
     assert_eq!(rt; power_of_two(126), Ok(weight(&rt, 1 << 126)));
