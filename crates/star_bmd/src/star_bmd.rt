@@ -13,7 +13,7 @@ use kind_laws::{
     unpack_edge,
 };
 use std::marker::PhantomData;
-use weights::{exact_div, magnitude, signed_gcd};
+use weights::{exact_div, magnitude, product, signed_gcd};
 use word_base::{Decomp, KindName, Overflow, Weight};
 
 /// The kind of multiplicative binary moment diagrams. Its edges have one weight, which multiplies.
@@ -83,8 +83,8 @@ impl Kind for StarBmd {
             (answered (λ p. (plain no_extra p.0, plain no_extra p.1)) result)) }
     {
         let (low, high) = children(body);
-        let low_weight = edge.weight.mul(low_weight_of(body))?;
-        let high_weight = edge.weight.mul(high_weight_of(body))?;
+        let low_weight = product(edge.weight, low_weight_of(body))?;
+        let high_weight = product(edge.weight, high_weight_of(body))?;
         let low = make_edge(low_weight, low);
         let high = make_edge(high_weight, high);
         Ok((low, high))
@@ -100,7 +100,10 @@ impl Kind for StarBmd {
     fn put_scale(scale: Weight, edge: Edge<StarBmd>) -> Result<Edge<StarBmd>, Overflow>
         ensures { Scales star_bmd scale (plain no_extra edge) (answered (plain no_extra) result) }
     {
-        let weight = scale.mul(edge.weight)?;
+        if scale == Weight::ONE {
+            return Ok(edge);
+        }
+        let weight = product(scale, edge.weight)?;
         Ok(make_edge(weight, node_of_multiple(scale, edge.node)))
     }
 
