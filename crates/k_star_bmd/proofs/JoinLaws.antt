@@ -1,18 +1,21 @@
 -- The joins of K*BMDs, by the weights of two edges.
-use Rattle.std.proofs.Common.{◌≡◌, ◌≢◌, refl, sym, ◌∙◌, ap, subst, ℕ, ℤ, pos, ◌-ℤ◌, ◌*ℤ◌, ◌^◌, true, arith}
+use Rattle.std.proofs.Common.{◌≡◌, ◌≢◌, refl, sym, ◌∙◌, ap, subst, ℕ, ℤ, pos, ◌-ℤ◌, ◌*ℤ◌, ◌^◌, true, not, arith}
 use Rattle.std.specs.Prelude.{unsigned_abs, int_div}
 use Rattle.std.specs.Int.{◌∣◌}
-use Rattle.std.proofs.lemmas.Bool.{lt-ltb}
+use Rattle.std.specs.Ordering.{int_eq}
+use Rattle.std.proofs.lemmas.Bool.{lt-ltb, not_from_true}
 use Rattle.std.proofs.lemmas.Int.{ints}
 use Rattle.integers.specs.Gcd.{signed_gcd}
-use Rattle.integers.proofs.Division.{divides-multiple, int_div-by_zero}
-use Rattle.integers.proofs.SignedGcd.{signed_gcd-times_first, signed_gcd-times_second, signed_gcd-times_third, signed_gcd-is_zero}
+use Rattle.integers.proofs.Ring.{*ℤ_one}
+use Rattle.integers.proofs.Division.{divides-multiple, exact_div, int_div-of_zero, int_div-by_zero}
+use Rattle.integers.proofs.SignedGcd.{signed_gcd-times_first, signed_gcd-times_second, signed_gcd-times_third, signed_gcd-is_zero, signed_gcd-first_alone}
 use Rattle.word_base.specs.Range.{InRange, in_range}
 use Rattle.word_base.specs.declared.decomp.Decomp.{Decomp}
 use Rattle.word_base.specs.declared.decomp.Decomp.TheVariants.{S, P, N}
 use Rattle.word_base.specs.declared.kind_name.KindName.TheVariants.{KStarBmd}
 use Rattle.tables.specs.Fits.{difference_in_range}
 use Rattle.tables.specs.Tree.{Shape, Tree, leaf, node, weights, tree, k_star_bmd_rest, k_star_bmd_node, node_join}
+use Rattle.tables.proofs.TreeLaws.{int_eq-refl}
 use Rattle.kind_laws.specs.Kind.{IsRooted}
 use Rattle.kind_laws.specs.Plain.{PlainEdge, plain_edge, over_shape}
 use Rattle.kind_laws.proofs.EdgeLaws.{same_numbers}
@@ -95,3 +98,22 @@ undivided a x n g is e =
     let none = (signed_gcd-is_zero a x (pos 0)).0 (sym is ∙ e) in
     ap (λ (y : ℤ). plain_edge y x n) (none.0 ∙ sym (ap (int_div a) (sym is ∙ e) ∙ int_div-by_zero a))
     ∙ ap (λ (y : ℤ). plain_edge (int_div a h) y n) (none.1 ∙ sym (ap (int_div x) (sym is ∙ e) ∙ int_div-by_zero x))
+
+-- ---- an edge that adds nothing has its weight as its factor
+
+pub some_weight : (a : ℤ) → not (int_eq a (pos 0)) ≡ true → a ≢ pos 0
+some_weight a h e =
+    let none : int_eq a (pos 0) ≡ true = ap (λ (x : ℤ). int_eq x (pos 0)) e ∙ int_eq-refl (pos 0) in
+    let no = not_from_true (int_eq a (pos 0)) none in
+    cc
+
+factor-alone : (a x : ℤ) → x ≡ pos 0 → a ≡ signed_gcd a x (pos 0)
+factor-alone a x e = sym (ap (λ (y : ℤ). signed_gcd a y (pos 0)) e ∙ signed_gcd-first_alone a)
+
+pub divided-alone : (a x : ℤ) (n : ℕ) → x ≡ pos 0 → a ≢ pos 0 →
+    plain_edge (pos 1) (pos 0) n ≡ plain_edge (int_div a (signed_gcd a x (pos 0))) (int_div x (signed_gcd a x (pos 0))) n
+divided-alone a x n e some =
+    let h : ℤ = signed_gcd a x (pos 0) in
+    let first : int_div a h ≡ pos 1 = ap (int_div a) (sym (factor-alone a x e)) ∙ exact_div a a (pos 1) some (sym (*ℤ_one a)) in
+    let second : int_div x h ≡ pos 0 = ap (λ (y : ℤ). int_div y h) e ∙ int_div-of_zero h in
+    ap (λ (y : ℤ). plain_edge y (pos 0) n) (sym first) ∙ ap (λ (y : ℤ). plain_edge (int_div a h) y n) (sym second)

@@ -16,7 +16,7 @@ use kind_laws::{
     pack_edge, unpack_edge,
 };
 use std::marker::PhantomData;
-use weights::{exact_div, gcd, signed_gcd};
+use weights::{exact_div, gcd, product, signed_gcd};
 use word_base::{Decomp, KindName, Overflow, Weight};
 
 /// The kind of K*BMDs. Its edges have two weights, of which `weight` multiplies and `extra` is added.
@@ -89,9 +89,9 @@ impl Kind for KStarBmd {
             (answered (λ p. (plain own_extra p.0, plain own_extra p.1)) result)) }
     {
         let (low, high) = children(body);
-        let low_weight = edge.weight.mul(low_weight_of(body))?;
-        let high_weight = edge.weight.mul(high_weight_of(body))?;
-        let added = edge.weight.mul(added_of(body))?;
+        let low_weight = product(edge.weight, low_weight_of(body))?;
+        let high_weight = product(edge.weight, high_weight_of(body))?;
+        let added = product(edge.weight, added_of(body))?;
         let high_extra = additive_of_high(letter, edge.extra, added)?;
         let low = make_edge(low_weight, edge.extra, low);
         let high = make_edge(high_weight, high_extra, high);
@@ -102,8 +102,15 @@ impl Kind for KStarBmd {
         ensures scale { result.0 ≡ scale_of k_star_bmd (plain own_extra edge).root }
         ensures rest { plain own_extra result.1 ≡ unscaled k_star_bmd (plain own_extra edge) }
     {
+        if edge.extra == Weight::ZERO && edge.weight != Weight::ZERO {
+            let rest = make_edge(Weight::ONE, Weight::ZERO, edge.node);
+            return (edge.weight, rest);
+        }
         let scale = signed_gcd(edge.weight, edge.extra, Weight::ZERO);
         if scale == Weight::ZERO {
+            return (scale, edge);
+        }
+        if scale == Weight::ONE {
             return (scale, edge);
         }
         let weight = exact_div(edge.weight, scale);
@@ -114,8 +121,11 @@ impl Kind for KStarBmd {
     fn put_scale(scale: Weight, edge: Edge<KStarBmd>) -> Result<Edge<KStarBmd>, Overflow>
         ensures { Scales k_star_bmd scale (plain own_extra edge) (answered (plain own_extra) result) }
     {
-        let weight = scale.mul(edge.weight)?;
-        let extra = scale.mul(edge.extra)?;
+        if scale == Weight::ONE {
+            return Ok(edge);
+        }
+        let weight = product(scale, edge.weight)?;
+        let extra = product(scale, edge.extra)?;
         Ok(make_edge(weight, extra, node_of_multiple(scale, edge.node)))
     }
 
