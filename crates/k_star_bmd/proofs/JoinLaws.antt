@@ -6,7 +6,7 @@ use Rattle.std.specs.Ordering.{int_eq}
 use Rattle.std.proofs.lemmas.Bool.{lt-ltb, not_from_true}
 use Rattle.std.proofs.lemmas.Int.{ints}
 use Rattle.integers.specs.Gcd.{signed_gcd}
-use Rattle.integers.proofs.Ring.{*ℤ_one}
+use Rattle.integers.proofs.Ring.{one-*ℤ, *ℤ_one}
 use Rattle.integers.proofs.Division.{divides-multiple, exact_div, int_div-of_zero, int_div-by_zero}
 use Rattle.integers.proofs.SignedGcd.{signed_gcd-times_first, signed_gcd-times_second, signed_gcd-times_third, signed_gcd-is_zero, signed_gcd-first_alone}
 use Rattle.word_base.specs.Range.{InRange, in_range}
@@ -90,14 +90,26 @@ node_is d l low high s r c g v b w rest is p q t =
     ∙ ap (λ (y : ℤ). made v y (int_div high.root.weight g)) (sym q)
     ∙ ap (made v b) (sym t)
 
--- ---- the edge that has no factor, the constant 0, is left as it is
+-- ---- the edge that is left as it is: the constant 0, which has no factor, and one of factor 1
+
+same_quotients : (a x : ℤ) (n : ℕ) (g : ℤ) → g ≡ signed_gcd a x (pos 0) → int_div a g ≡ a → int_div x g ≡ x →
+    plain_edge a x n ≡ plain_edge (int_div a (signed_gcd a x (pos 0))) (int_div x (signed_gcd a x (pos 0))) n
+same_quotients a x n g is p q =
+    subst (λ (h : ℤ). plain_edge a x n ≡ plain_edge (int_div a h) (int_div x h) n) is
+    (ap (λ (y : ℤ). plain_edge y x n) (sym p) ∙ ap (λ (y : ℤ). plain_edge (int_div a g) y n) (sym q))
+
 pub undivided : (a x : ℤ) (n : ℕ) (g : ℤ) → g ≡ signed_gcd a x (pos 0) → g ≡ pos 0 →
     plain_edge a x n ≡ plain_edge (int_div a (signed_gcd a x (pos 0))) (int_div x (signed_gcd a x (pos 0))) n
 undivided a x n g is e =
-    let h : ℤ = signed_gcd a x (pos 0) in
     let none = (signed_gcd-is_zero a x (pos 0)).0 (sym is ∙ e) in
-    ap (λ (y : ℤ). plain_edge y x n) (none.0 ∙ sym (ap (int_div a) (sym is ∙ e) ∙ int_div-by_zero a))
-    ∙ ap (λ (y : ℤ). plain_edge (int_div a h) y n) (none.1 ∙ sym (ap (int_div x) (sym is ∙ e) ∙ int_div-by_zero x))
+    same_quotients a x n g is (ap (int_div a) e ∙ int_div-by_zero a ∙ sym none.0) (ap (int_div x) e ∙ int_div-by_zero x ∙ sym none.1)
+
+int_div-by_one : (z : ℤ) → int_div z (pos 1) ≡ z
+int_div-by_one z = exact_div z (pos 1) z (λ e. cc) (sym (one-*ℤ z))
+
+pub divided_by_one : (a x : ℤ) (n : ℕ) (g : ℤ) → g ≡ signed_gcd a x (pos 0) → g ≡ pos 1 →
+    plain_edge a x n ≡ plain_edge (int_div a (signed_gcd a x (pos 0))) (int_div x (signed_gcd a x (pos 0))) n
+divided_by_one a x n g is e = same_quotients a x n g is (ap (int_div a) e ∙ int_div-by_one a) (ap (int_div x) e ∙ int_div-by_one x)
 
 -- ---- an edge that adds nothing has its weight as its factor
 

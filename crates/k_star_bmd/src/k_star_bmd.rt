@@ -107,10 +107,8 @@ impl Kind for KStarBmd {
             return (edge.weight, rest);
         }
         let scale = signed_gcd(edge.weight, edge.extra, Weight::ZERO);
-        if scale == Weight::ZERO {
-            return (scale, edge);
-        }
-        if scale == Weight::ONE {
+        // the constant 0 has the factor 0
+        if scale == Weight::ZERO || scale == Weight::ONE {
             return (scale, edge);
         }
         let weight = exact_div(edge.weight, scale);
