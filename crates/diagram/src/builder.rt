@@ -171,8 +171,8 @@ impl<K: Kind, S: Store> Builder<K, S> {
     }
 
     /// Remembers the result of the operation whose key it is.
-    pub(crate) fn remember(&mut self, key: HashedKey, answer: Edge<K>)
-        requires { IsKept K.NAME self.old key (plain K.extra_of answer) }
+    pub(crate) fn remember(&mut self, key: &HashedKey, answer: Edge<K>)
+        requires { IsKept K.NAME self.old key.now (plain K.extra_of answer) }
         ensures { self.new ≡ self.old }
     {
         self.cache.keep(key, K::pack(answer));

@@ -52,7 +52,7 @@ impl<K: Kind, S: Store> Builder<K, S> {
             return Ok(multiple);
         }
         let multiple = self.scale_anew(factor, a)?;
-        self.remember(key, multiple);
+        self.remember(&key, multiple);
         Ok(multiple)
     }
 

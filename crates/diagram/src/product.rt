@@ -72,7 +72,7 @@ impl<K: Kind, S: Store> Builder<K, S> {
             return Ok(product);
         }
         let product = self.mul_anew(a, b)?;
-        self.remember(key, product);
+        self.remember(&key, product);
         Ok(product)
     }
 

@@ -128,7 +128,7 @@ impl<K: Kind, S: Store> Builder<K, S> {
             return Ok(sum);
         }
         let sum = self.sum_anew(walk, a, b)?;
-        self.remember(key, sum);
+        self.remember(&key, sum);
         Ok(sum)
     }
 
