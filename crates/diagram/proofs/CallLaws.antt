@@ -1,5 +1,5 @@
 -- How the answers of calls that follow one another make that of the whole, and how an answer at one level is one at the levels above.
-use Rattle.std.proofs.Common.{◌≡◌, sym, ◌∙◌, subst, ℕ, zero, suc, ◌+◌, ◌-◌, ◌<◌, ◌≤◌, List, [], ◌∷◌, length, drop, min, arith, inl, inr}
+use Rattle.std.proofs.Common.{◌≡◌, refl, sym, ◌∙◌, subst, ℕ, zero, suc, ◌+◌, ◌-◌, ◌<◌, ◌≤◌, List, [], ◌∷◌, length, drop, min, arith, inl, inr}
 use Rattle.std.specs.Prelude.{Result, Ok, Err, IfOk}
 use Rattle.word_base.specs.declared.decomp.Decomp.{Decomp}
 use Rattle.word_base.specs.declared.kind_name.KindName.{KindName}
@@ -10,7 +10,7 @@ use Rattle.tables.proofs.PieceLaws.{Covers}
 use Rattle.kind_laws.specs.Plain.{PlainEdge}
 use Rattle.kind_laws.proofs.GraphLaws.{HasShape-extends}
 use Rattle.diagram.specs.Answers.{Makes, HasCause, Causes, Answers}
-use Rattle.diagram.specs.Calls.{IsOfEach, IsOfBoth, IsOfParts, PlainParts, ArePartsOfBoth}
+use Rattle.diagram.specs.Calls.{IsOfEach, IsOfBoth, IsOfParts, ArePartsOfBoth, PlainSplit, Splits, upper}
 use Rattle.diagram.specs.View.{View, StandsAt, IsEdge, top_of, Keeps}
 use Rattle.diagram.specs.declared.limit.Limit.{Limit}
 use Rattle.diagram.specs.declared.limit.Limit.TheVariants as limit
@@ -195,23 +195,21 @@ pub same_keeps : (v w : View) → w ≡ v → Keeps v w
 same_keeps v w e = subst (Keeps v) (sym e) (keeps_itself v)
 
 -- an operation on two edges, from what it makes of their parts
-pub both_of_parts : (k : KindName) (op : Table → Table → Table) (work : ℕ → Table → Table → List Piece) (v x y w : View) (a b : PlainEdge) (level : ℕ) (parts : PlainParts)
-    (r : Result PlainEdge Limit) → x ≡ v → y ≡ x → IsEdge k v a → IsEdge k v b → level ≡ min (top_of v a.node) (top_of v b.node) → Keeps y w → BothByHalves k v op work →
-    ArePartsOfBoth k x level a b (Ok parts) → IsOfParts op work k y w level parts r → IsOfBoth op work k v w a b r
-both_of_parts k op work v x y w a b level parts r e f good_a good_b is keeps halving are of_parts =
-    let here = subst (λ (z : View). ArePartsOfBoth k z level a b (Ok parts)) e are in
-    let from = subst (λ (z : View). IsOfParts op work k z w level parts r) (f ∙ e) of_parts in
-    both_from_top k v w op work a b level r good_a good_b is (subst (λ (z : View). Keeps z w) (f ∙ e) keeps) halving
+pub both_of_parts : (k : KindName) (op : Table → Table → Table) (work : ℕ → Table → Table → List Piece) (v x w : View) (a b : PlainEdge) (split : PlainSplit)
+    (r : Result PlainEdge Limit) → x ≡ v → IsEdge k v a → IsEdge k v b → Keeps x w → BothByHalves k v op work →
+    Splits k v a b (Ok split) → IsOfParts op work k x w split.level split.parts r → IsOfBoth op work k v w a b r
+both_of_parts k op work v x w a b split r same good_a good_b keeps halving splits of_parts =
+    let here = subst (λ (l : ℕ). ArePartsOfBoth k v l a b (Ok split.parts)) (sym splits.0) splits.1 in
+    let from = subst (λ (z : View). IsOfParts op work k z w split.level split.parts r) same of_parts in
+    both_from_top k v w op work a b split.level r good_a good_b splits.0 (subst (λ (z : View). Keeps z w) same keeps) halving
     (λ t u h g. from t u (here t u h g))
 
 -- the parts of two operands do not fit
-pub both_unfit : (k : KindName) (op : Table → Table → Table) (work : ℕ → Table → Table → List Piece) (v x w : View) (a b : PlainEdge) (level : ℕ) (o : Overflow) →
-    x ≡ v → w ≡ x → IsEdge k v a → IsEdge k v b → level ≡ min (top_of v a.node) (top_of v b.node) → BothByHalves k v op work →
-    ((l : ℕ) (t u : Table) → Covers k v.letters (work l t u) (pieces l (t ∷ u ∷ []))) →
-    ArePartsOfBoth k x level a b (Err o) → IsOfBoth op work k v w a b (Err limit.Overflow)
-both_unfit k op work v x w a b level o e f good_a good_b is halving covers are =
-    let same = f ∙ e in
-    let here = subst (λ (z : View). ArePartsOfBoth k z level a b (Err o)) e are in
+pub both_unfit : (k : KindName) (op : Table → Table → Table) (work : ℕ → Table → Table → List Piece) (v w : View) (a b : PlainEdge) (o : Overflow) →
+    w ≡ v → IsEdge k v a → IsEdge k v b → BothByHalves k v op work → ((l : ℕ) (t u : Table) → Covers k v.letters (work l t u) (pieces l (t ∷ u ∷ []))) →
+    Splits k v a b (Err o) → IsOfBoth op work k v w a b (Err limit.Overflow)
+both_unfit k op work v w a b o same good_a good_b halving covers splits =
+    let level = upper v a b in
     subst (λ (z : View). IsOfBoth op work k v z a b (Err limit.Overflow)) (sym same)
-    (both_from_top k v v op work a b level (Err limit.Overflow) good_a good_b is (keeps_itself v) halving
-    (λ t u h g. answers_overflow k v (work level t u) level (op t u) ((covers level t u).unfit (here t u h g))))
+    (both_from_top k v v op work a b level (Err limit.Overflow) good_a good_b refl (keeps_itself v) halving
+    (λ t u h g. answers_overflow k v (work level t u) level (op t u) ((covers level t u).unfit (splits t u h g))))

@@ -14,9 +14,11 @@ use Rattle.tables.specs.Pieces.{Piece, pieces, InNodes}
 use Rattle.record_store.specs.Solo.{solo_view}
 use Rattle.record_store.specs.StoreView.{find_in}
 use Rattle.kind_laws.specs.Body.{body_of, FitsBody}
+use Rattle.kind_laws.specs.Plain.{plain_edge}
 use Rattle.kind_laws.specs.declared.fields.Fields.{Fields}
 use Rattle.diagram.specs.declared.limit.Limit.TheVariants as limit
 use Rattle.diagram.specs.Answers.{HasNodeShape, SomeUnknown, Answers}
+use Rattle.diagram.specs.Calls.{IsNodeOf, upper}
 use Rattle.diagram.specs.View.{View, top_of}
 
 -- the variable of a single level
@@ -59,6 +61,14 @@ top-of_node = ap (λ found. option_map_or (λ (body : List ℕ). slice_index bod
 
 top_of-leaf : top_of no_node 0 ≡ 1
 top_of-leaf = ap (λ found. option_map_or (λ (body : List ℕ). slice_index body 0 - 1) found 1) (found-none 0)
+
+-- the node is the upper one of it and the leaf
+upper-of_both : upper one_node (plain_edge (pos 0) (pos 0) 1) (plain_edge (pos 0) (pos 0) 0) ≡ 0
+upper-of_both = let top = top-of_node in omega arith
+
+-- what is read of an edge to the node
+node-read : IsNodeOf Hdd one_node (plain_edge (pos 0) (pos 0) 1) 0 (body_of fields)
+node-read = record { level_is = sym top-of_node; known = λ some. found-1; is_body = λ some. (fields, fields-fit, refl, refl) }
 
 -- the id 1 has the variable's node
 one_node-has : HasNodeShape Hdd one_node work 1

@@ -23,6 +23,7 @@ pub mod RememberedLaws
 pub mod SameLaws
 pub mod ScaledEdges
 pub mod ShiftLaws
+pub mod SplitLaws
 pub mod StepLaws
 pub mod StoreLaws
 pub mod StrippedSums

@@ -1,5 +1,5 @@
 -- What the calls of a builder ask, and what they answer.
-use Rattle.std.specs.Prelude.{◌≡◌, ℕ, ◌+◌, ◌<◌, ◌≤◌, ℤ, pos, negsuc, false, List, [], ◌∷◌, drop, length, Result, Ok, Err, MatchResult, refl}
+use Rattle.std.specs.Prelude.{◌≡◌, ◌≢◌, ℕ, ◌+◌, ◌<◌, ◌≤◌, ℤ, pos, negsuc, false, List, [], ◌∷◌, drop, length, min, Some, Result, Ok, Err, MatchResult, refl}
 use Rattle.word_base.specs.declared.decomp.Decomp.{Decomp}
 use Rattle.word_base.specs.declared.decomp.Decomp.TheVariants.{S, P, N}
 use Rattle.word_base.specs.declared.kind_name.KindName.{KindName}
@@ -8,11 +8,14 @@ use Rattle.word_base.specs.declared.weight.Overflow.{Overflow}
 use Rattle.tables.specs.Fits.{fits}
 use Rattle.tables.specs.Table.{Table, entry, IsOver, part0, part1, merged, variable_table}
 use Rattle.tables.specs.Pieces.{Piece, pieces, SomeUnfit, join_work}
-use Rattle.record_store.specs.StoreView.{StoreView}
+use Rattle.record_store.specs.StoreView.{StoreView, find_in}
 use Rattle.record_store.specs.Interns.{Interns}
 use Rattle.record_store.specs.declared.store.StoreFull.{StoreFull}
+use Rattle.kind_laws.specs.Body.{Reads}
+use Rattle.kind_laws.specs.Kind.{IsNodeBody, HasParts}
 use Rattle.kind_laws.specs.Plain.{PlainEdge, plain, plain_edge, constant_edge}
 use Rattle.diagram.specs.declared.parts.Parts.{Parts}
+use Rattle.diagram.specs.declared.split.Split.{Split}
 use Rattle.diagram.specs.declared.limit.Limit.{Limit}
 use Rattle.diagram.specs.declared.limit.Limit.TheVariants as limit
 use Rattle.diagram.specs.View.{View, letter_at, StandsAt, IsEdge, top_of, IsGood}
@@ -141,6 +144,44 @@ pub record StandForPart (k : KindName) (v : View) (level : ℕ) (t : Table) (low
 abbrev pub IsOfPart : (Table → Table) → (ℕ → Table → List Piece) → KindName → View → View → ℕ → PlainEdge → PlainEdge → Result PlainEdge Limit → Type 0
 IsOfPart op work k old new level low high result = (t : Table) → StandForPart k old level t low high →
     Answers k old new (work level t) level (op t) result
+
+-- ---- each node read once
+-- the level and the body of the node that an edge leads to; the leaf's level is the number of levels, and it has no body
+pub record IsNodeOf (k : KindName) (v : View) (e : PlainEdge) (level : ℕ) (body : List ℕ) : Type 0 where
+  pub level_is : level ≡ top_of v e.node
+  pub known : e.node ≢ 0 → find_in v.store e.node ≡ Some body
+  pub is_body : e.node ≢ 0 → IsNodeBody k body
+
+-- two edges are the low and the high part of an edge at a level with the letter, by the level and the body of its node
+pub record ArePartsBy (k : KindName) (d : Decomp) (l : ℕ) (e : PlainEdge) (level : ℕ) (body : List ℕ) (result : Result (PlainEdge × PlainEdge) Overflow) : Type 0 where
+  pub here : level ≡ l → Reads body (λ f. HasParts k d e.root f result)
+  pub above : level ≢ l → result ≡ Ok (e, skipped_high k d e)
+
+-- the level of an edge's node and the parts of the edge there, or a table that does not fit
+abbrev pub SplitsOne : KindName → View → PlainEdge → Result (ℕ × PlainEdge × PlainEdge) Overflow → Type 0
+SplitsOne k v e result =
+    MatchResult result
+    (λ s. (s.0 ≡ top_of v e.node) × ArePartsOf k v (top_of v e.node) e (Ok (s.1, s.2)))
+    (λ o. ArePartsOf k v (top_of v e.node) e (Err o))
+
+-- a level, and the parts of two edges there
+pub record PlainSplit : Type 0 where
+  pub level : ℕ
+  pub parts : PlainParts
+
+abbrev pub plain_split : {K X E : Type 0} → (X → ℤ) → Split K X E → PlainSplit
+plain_split of s = record { level = s.level; parts = plain_parts of s.parts }
+
+-- the level of the upper of two edges' nodes
+abbrev pub upper : View → PlainEdge → PlainEdge → ℕ
+upper v a b = min (top_of v a.node) (top_of v b.node)
+
+-- the level of the upper node of two edges and the parts of both there, or one of their tables does not fit
+abbrev pub Splits : KindName → View → PlainEdge → PlainEdge → Result PlainSplit Overflow → Type 0
+Splits k v a b result =
+    MatchResult result
+    (λ s. (s.level ≡ upper v a b) × ArePartsOfBoth k v (upper v a b) a b (Ok s.parts))
+    (λ o. ArePartsOfBoth k v (upper v a b) a b (Err o))
 
 -- ---- examples
 

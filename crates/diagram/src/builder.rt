@@ -5,11 +5,12 @@ ghost use Rattle.kind_laws.specs.Kind.{IsNodeBody};
 ghost use Rattle.kind_laws.specs.Plain.{plain, constant_edge, answered};
 ghost use Rattle.record_store.specs.Interns.{Interns};
 ghost use Rattle.record_store.specs.StoreView.{find_in};
-ghost use Rattle.diagram.specs.Calls.{CanPart, skipped_high, ArePartsOf, CanJoin, IsJoin, IsVariable, variable_low, variable_high, KeepsGood};
+ghost use Rattle.diagram.specs.Calls.{CanPart, ArePartsOf, CanJoin, IsJoin, IsVariable, variable_low, variable_high, KeepsGood};
 ghost use Rattle.diagram.specs.Remembered.{IsFound, IsKept};
 ghost use Rattle.diagram.specs.View.{View, letter_at, StandsAt, IsEdge, top_of, Keeps, IsGood};
 
 use crate::limit::Limit;
+use crate::split::parts_by;
 use kind_laws::{Edge, Joined, Kind, level_of};
 use marks::Marks;
 use record_store::{Store, StoreFull};
@@ -110,7 +111,7 @@ impl<K: Kind, S: Store> Builder<K, S> {
     }
 
     /// The body of the node that an edge leads to.
-    fn body_of(&mut self, edge: Edge<K>) -> [u64; 8]
+    pub(crate) fn body_of(&mut self, edge: Edge<K>) -> [u64; 8]
         requires good { IsEdge K.NAME self.old (plain K.extra_of edge) }
         requires no_leaf { edge.node ≢ 0 }
         ensures known { find_in self.old.store edge.node ≡ Some result }
@@ -140,14 +141,8 @@ impl<K: Kind, S: Store> Builder<K, S> {
         ensures unchanged { self.new ≡ self.old }
     {
         let letter = self.letter(level);
-        if edge.node == 0 {
-            return Ok(skipped_parts(edge, letter));
-        }
-        let body = self.body_of(edge);
-        if level_of(&body) != level {
-            return Ok(skipped_parts(edge, letter));
-        }
-        K::parts(edge, &body, letter)
+        let node = self.node_of(edge);
+        parts_by(edge, &node, level, letter)
     }
 
     /// The id of a body of which the store stays good.
@@ -171,8 +166,8 @@ impl<K: Kind, S: Store> Builder<K, S> {
     }
 
     /// Remembers the result of the operation whose key it is.
-    pub(crate) fn remember(&mut self, key: HashedKey, answer: Edge<K>)
-        requires { IsKept K.NAME self.old key (plain K.extra_of answer) }
+    pub(crate) fn remember(&mut self, key: &HashedKey, answer: Edge<K>)
+        requires { IsKept K.NAME self.old key.now (plain K.extra_of answer) }
         ensures { self.new ≡ self.old }
     {
         self.cache.keep(key, K::pack(answer));
@@ -223,18 +218,6 @@ impl<K: Kind, S: Store> Builder<K, S> {
     {
         let _store = &self.store;
         a == b
-    }
-}
-
-/// The parts of an edge at a level above its node.
-fn skipped_parts<K: Kind>(edge: Edge<K>, letter: Decomp) -> (Edge<K>, Edge<K>)
-    ensures low { plain K.extra_of result.0 ≡ plain K.extra_of edge }
-    ensures high { plain K.extra_of result.1 ≡ skipped_high K.NAME letter (plain K.extra_of edge) }
-{
-    let low = edge;
-    match letter {
-        Decomp::S => (low, edge),
-        Decomp::P | Decomp::N => (low, K::constant(Weight::ZERO)),
     }
 }
 

@@ -13,6 +13,7 @@ mod multiple;
 mod operation;
 mod parts;
 mod product;
+mod split;
 mod sum;
 #[cfg(test)]
 mod tests;

@@ -52,7 +52,7 @@ impl<K: Kind, S: Store> Builder<K, S> {
             return Ok(multiple);
         }
         let multiple = self.scale_anew(factor, a)?;
-        self.remember(key, multiple);
+        self.remember(&key, multiple);
         Ok(multiple)
     }
 
@@ -65,9 +65,8 @@ impl<K: Kind, S: Store> Builder<K, S> {
         ensures multiple { IsOfEach (multiple factor) (scale_work factor) K.NAME self.old self.new (plain K.extra_of a)
             (answered (plain K.extra_of) result) }
     {
-        let level = self.top(a);
-        let parts = self.parts(a, level)?;
-        self.scale_at(level, factor, parts.0, parts.1)
+        let (level, low, high) = self.split_one(a)?;
+        self.scale_at(level, factor, low, high)
     }
 
     /// The multiple of an edge, of its parts at a level.

@@ -1,7 +1,6 @@
-ghost use Rattle.std.specs.Prelude.{◌≡◌, ◌↔◌, min, IsTrue};
+ghost use Rattle.std.specs.Prelude.{◌≡◌, ◌↔◌, IsTrue};
 ghost use Rattle.kind_laws.specs.Plain.{plain, answered};
-ghost use Rattle.diagram.specs.Calls.{ArePartsOfBoth, IsConstantOf, plain_parts, CanPart};
-ghost use Rattle.diagram.specs.View.{View, IsEdge, top_of};
+ghost use Rattle.diagram.specs.Calls.{IsConstantOf};
 
 use crate::builder::Builder;
 use crate::limit::Limit;
@@ -17,39 +16,6 @@ pub struct Parts<K: Kind, X = <K as Kind>::Extra> {
 }
 
 impl<K: Kind, S: Store> Builder<K, S> {
-    /// The level of the upper of two nodes.
-    pub(crate) fn upper(&mut self, a: Edge<K>, b: Edge<K>) -> u16
-        requires a_good { IsEdge K.NAME self.old (plain K.extra_of a) }
-        requires b_good { IsEdge K.NAME self.old (plain K.extra_of b) }
-        ensures upper { result ≡ min (top_of self.old a.node) (top_of self.old b.node) }
-        ensures unchanged { self.new ≡ self.old }
-    {
-        let first = self.top(a);
-        let second = self.top(b);
-        first.min(second)
-    }
-
-    /// The parts of two edges at a level.
-    pub(crate) fn parts_of_both(
-        &mut self,
-        a: Edge<K>,
-        b: Edge<K>,
-        level: u16,
-    ) -> Result<Parts<K>, Overflow>
-        requires a { CanPart K.NAME self.old level (plain K.extra_of a) }
-        requires b { CanPart K.NAME self.old level (plain K.extra_of b) }
-        ensures parts { ArePartsOfBoth K.NAME self.old level (plain K.extra_of a) (plain K.extra_of b)
-            (answered (plain_parts K.extra_of) result) }
-        ensures unchanged { self.new ≡ self.old }
-    {
-        let first = self.parts(a, level)?;
-        let second = self.parts(b, level)?;
-        Ok(Parts {
-            low: (first.0, second.0),
-            high: (first.1, second.1),
-        })
-    }
-
     /// The edge of a constant, where the sum or product that makes it is a weight.
     pub(crate) fn constant_of(&self, value: Result<Weight, Overflow>) -> Result<Edge<K>, Limit>
         ensures { IsConstantOf K.NAME value (answered (plain K.extra_of) result) }

@@ -72,7 +72,7 @@ impl<K: Kind, S: Store> Builder<K, S> {
             return Ok(product);
         }
         let product = self.mul_anew(a, b)?;
-        self.remember(key, product);
+        self.remember(&key, product);
         Ok(product)
     }
 
@@ -86,9 +86,8 @@ impl<K: Kind, S: Store> Builder<K, S> {
         ensures product { IsOfBoth times (product_work self.old.letters) K.NAME self.old self.new
             (plain K.extra_of a) (plain K.extra_of b) (answered (plain K.extra_of) result) }
     {
-        let level = self.upper(a, b);
-        let parts = self.parts_of_both(a, b, level)?;
-        self.mul_at(level, parts)
+        let split = self.split(a, b)?;
+        self.mul_at(split.level, split.parts)
     }
 
     /// The product of two edges, of their parts at a level.

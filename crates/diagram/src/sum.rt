@@ -128,7 +128,7 @@ impl<K: Kind, S: Store> Builder<K, S> {
             return Ok(sum);
         }
         let sum = self.sum_anew(walk, a, b)?;
-        self.remember(key, sum);
+        self.remember(&key, sum);
         Ok(sum)
     }
 
@@ -142,9 +142,8 @@ impl<K: Kind, S: Store> Builder<K, S> {
         ensures sum { IsOfBoth plus (sum_work walk) K.NAME self.old self.new (plain K.extra_of a) (plain K.extra_of b)
             (answered (plain K.extra_of) result) }
     {
-        let level = self.upper(a, b);
-        let parts = self.parts_of_both(a, b, level)?;
-        self.sum_at(walk, level, parts)
+        let split = self.split(a, b)?;
+        self.sum_at(walk, split.level, split.parts)
     }
 
     /// The sum of two edges, of their parts at a level.

@@ -66,8 +66,8 @@ impl ResultCache {
     }
 
     /// Writes the value at the key's place. What stood there is lost.
-    pub fn keep(&mut self, key: HashedKey, value: [u64; 5])
-        ensures { self.new ≡ kept self.old key value }
+    pub fn keep(&mut self, key: &HashedKey, value: [u64; 5])
+        ensures { self.new ≡ kept self.old key.now value }
     {
         let place = key.place(self.index.len());
         let number = self.index[place] as usize;

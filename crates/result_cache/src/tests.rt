@@ -16,13 +16,13 @@ fn key(op: u8, first: u64, second: u64) -> HashedKey {
 fn what_is_kept_last_at_a_place_is_found(rt: HostRuntime) -> Result<(), Fail> {
     let mut cache = ResultCache::create(rt.alloc(), 0)?;
     assert_eq!(rt; cache.look(&key(1, 2, 3)), None);
-    cache.keep(key(1, 2, 3), [1, 2, 3, 4, 5]);
+    cache.keep(&key(1, 2, 3), [1, 2, 3, 4, 5]);
     assert_eq!(rt; cache.look(&key(1, 2, 3)), Some([1, 2, 3, 4, 5]));
     assert_eq!(rt; cache.look(&key(1, 2, 4)), None);
     assert_eq!(rt; cache.look(&key(2, 2, 3)), None);
-    cache.keep(key(1, 2, 3), [6, 7, 8, 9, 10]);
+    cache.keep(&key(1, 2, 3), [6, 7, 8, 9, 10]);
     assert_eq!(rt; cache.look(&key(1, 2, 3)), Some([6, 7, 8, 9, 10]));
-    cache.keep(key(1, 2, 4), [0, 0, 0, 0, 1]);
+    cache.keep(&key(1, 2, 4), [0, 0, 0, 0, 1]);
     assert_eq!(rt; cache.look(&key(1, 2, 3)), None);
     assert_eq!(rt; cache.look(&key(1, 2, 4)), Some([0, 0, 0, 0, 1]));
     Ok(())
@@ -32,7 +32,7 @@ fn what_is_kept_last_at_a_place_is_found(rt: HostRuntime) -> Result<(), Fail> {
 fn the_greatest_cache_keeps_what_stands_apart(rt: HostRuntime) -> Result<(), Fail> {
     let mut cache = ResultCache::create(rt.alloc(), MAX_LOG)?;
     for number in 0..8 {
-        cache.keep(key(1, number, 0), [number, 0, 0, 0, 0]);
+        cache.keep(&key(1, number, 0), [number, 0, 0, 0, 0]);
     }
     for number in 0..8 {
         assert_eq!(rt; cache.look(&key(1, number, 0)), Some([number, 0, 0, 0, 0]));
@@ -45,7 +45,7 @@ fn the_greatest_cache_keeps_what_stands_apart(rt: HostRuntime) -> Result<(), Fai
 fn each_place_of_a_small_cache_is_filled(rt: HostRuntime) -> Result<(), Fail> {
     let mut cache = ResultCache::create(rt.alloc(), 3)?;
     for number in 0..1000 {
-        cache.keep(key(1, number, number), [number; 5]);
+        cache.keep(&key(1, number, number), [number; 5]);
         assert_eq!(rt; cache.look(&key(1, number, number)), Some([number; 5]));
     }
     let mut found: u64 = 0;

@@ -5,18 +5,19 @@ use Rattle.tables.specs.Table.{multiple}
 use Rattle.tables.specs.Pieces.{scale_work}
 use Rattle.tables.proofs.TreeLaws.{int_eq-same}
 use Rattle.kind_laws.specs.Plain.{PlainEdge, plain, constant_edge}
-use Rattle.diagram.specs.Calls.{CanPart, ArePartsOf, IsOfEach, PartLiesBelow}
+use Rattle.diagram.specs.Calls.{IsOfEach}
 use Rattle.diagram.specs.View.{View, top_of}
 use Rattle.diagram.specs.declared.limit.Limit.TheVariants as limit
 use Rattle.diagram.specs.declared.operation.Operation.TheVariants.{Product}
 use Rattle.diagram.proofs.BothLaws.{constant_is, constant_answers_each}
 use Rattle.diagram.proofs.CallLaws.{same_keeps}
-use Rattle.diagram.proofs.EachLaws.{can_part_at, part_lies_below, each_of_parts, each_unfit, refused_each}
+use Rattle.diagram.proofs.EachLaws.{each_of_parts, each_unfit, refused_each}
 use Rattle.diagram.proofs.LevelLaws.{still_edge}
 use Rattle.diagram.proofs.MultipleLaws.{scale_by_halves, scale_covers_multiple, scale_covers_operand}
 use Rattle.diagram.proofs.MultipleCalls.{low_multiple_refuses, high_multiple_refuses, multiple_joins, multiples_can_join, falls_to_high_part}
 use Rattle.diagram.proofs.FactoredProducts.{scale_answers, scale_overflows}
 use Rattle.diagram.proofs.RememberedLaws.{product_with_zero, known_each, each_result}
+use Rattle.diagram.proofs.SplitLaws.{split_one_lies_below}
 use Rattle.diagram.proofs.StoreLaws.{keeps_on, keeps_itself}
 use Rattle.diagram.proofs.builder.Builder.+multiple.Goals as goal
 
@@ -86,52 +87,32 @@ multiple_of-returns-in_err-multiple-clause-multiple g t c =
     refused_each k (multiple factor) (scale_work factor) c.args.self.now c.scale_anew.new.self (plain g.K.Kind.extra_of c.args.a) (plain g.K.Kind.extra_of) c.from_residual.result
     c.in_err-multiple.field-0.0 c.from_residual.ensures.1 c.in_err-multiple.ensures.multiple
 
-pub scale_anew-parts-requires-after_bounds : goal.scale_anew-parts-requires-after_bounds
-scale_anew-parts-requires-after_bounds g t c = λ lives bounds.
-    let k = g.K.Kind.NAME in
-    let v = c.args.self.now in
-    let a = plain g.K.Kind.extra_of c.args.a in
-    subst (λ (w : View). CanPart k w c.top-level.result a) (sym c.top-level.ensures.unchanged)
-    (can_part_at k v a c.top-level.result c.requires.good c.requires.no_leaf c.top-level.ensures.level)
+pub scale_anew-returns-in_err-level-clause-keeps : goal.scale_anew-returns-in_err-level-clause-keeps
+scale_anew-returns-in_err-level-clause-keeps g t c = same_keeps c.args.self.now c.split_one.new.self c.in_err-level.ensures.unchanged
 
-pub scale_anew-returns-in_err-parts-clause-keeps : goal.scale_anew-returns-in_err-parts-clause-keeps
-scale_anew-returns-in_err-parts-clause-keeps g t c =
-    same_keeps c.args.self.now c.parts.new.self (c.in_err-parts.ensures.unchanged ∙ c.top-level.ensures.unchanged)
-
-pub scale_anew-returns-in_err-parts-clause-multiple : goal.scale_anew-returns-in_err-parts-clause-multiple
-scale_anew-returns-in_err-parts-clause-multiple g t c =
+pub scale_anew-returns-in_err-level-clause-multiple : goal.scale_anew-returns-in_err-level-clause-multiple
+scale_anew-returns-in_err-level-clause-multiple g t c =
     let k = g.K.Kind.NAME in
     let v = c.args.self.now in
     let a = plain g.K.Kind.extra_of c.args.a in
     let factor = c.args.factor in
-    refused_each k (multiple factor) (scale_work factor) v c.parts.new.self a (plain g.K.Kind.extra_of) c.from_residual.result limit.Overflow c.from_residual.ensures.1
-    (each_unfit k (multiple factor) (scale_work factor) v c.top-level.new.self c.parts.new.self a c.top-level.result c.in_err-parts.field-0.0
-    c.top-level.ensures.unchanged c.in_err-parts.ensures.unchanged c.requires.good c.top-level.ensures.level (scale_by_halves k v factor c.requires.good.1.allowed)
-    (λ l x. scale_covers_operand k v.letters factor l x) c.in_err-parts.ensures.parts)
+    refused_each k (multiple factor) (scale_work factor) v c.split_one.new.self a (plain g.K.Kind.extra_of) c.from_residual.result limit.Overflow c.from_residual.ensures.1
+    (each_unfit k (multiple factor) (scale_work factor) v c.split_one.new.self a c.in_err-level.field-0.0 c.in_err-level.ensures.unchanged c.requires.good
+    (scale_by_halves k v factor c.requires.good.1.allowed) (λ l x. scale_covers_operand k v.letters factor l x) c.in_err-level.ensures.splits)
 
 pub scale_anew-scale_at-requires-after_bounds : goal.scale_anew-scale_at-requires-after_bounds
 scale_anew-scale_at-requires-after_bounds g t c = λ lives bounds.
-    let k = g.K.Kind.NAME in
-    let v = c.args.self.now in
-    let a = plain g.K.Kind.extra_of c.args.a in
-    let low = plain g.K.Kind.extra_of c.in_ok-parts.parts.0 in
-    let high = plain g.K.Kind.extra_of c.in_ok-parts.parts.1 in
-    let level = c.top-level.result in
-    let here = subst (λ (w : View). ArePartsOf k w level a (Ok (low, high))) c.top-level.ensures.unchanged c.in_ok-parts.ensures.parts in
-    subst (λ (w : View). PartLiesBelow k w level low high) (sym (c.in_ok-parts.ensures.unchanged ∙ c.top-level.ensures.unchanged))
-    (part_lies_below k v level a low high (can_part_at k v a level c.requires.good c.requires.no_leaf c.top-level.ensures.level) here)
+    split_one_lies_below g.K.Kind.NAME c.args.self.now c.split_one.new.self (plain g.K.Kind.extra_of c.args.a) c.in_ok-level.level (plain g.K.Kind.extra_of c.in_ok-level.low)
+    (plain g.K.Kind.extra_of c.in_ok-level.high) c.requires.good c.requires.no_leaf c.in_ok-level.ensures.unchanged c.in_ok-level.ensures.splits
 
 pub scale_anew-returns-clause-multiple : goal.scale_anew-returns-clause-multiple
 scale_anew-returns-clause-multiple g t c =
     let k = g.K.Kind.NAME in
     let v = c.args.self.now in
-    let a = plain g.K.Kind.extra_of c.args.a in
-    let low = plain g.K.Kind.extra_of c.in_ok-parts.parts.0 in
-    let high = plain g.K.Kind.extra_of c.in_ok-parts.parts.1 in
     let factor = c.args.factor in
-    each_of_parts k (multiple factor) (scale_work factor) v c.top-level.new.self c.parts.new.self c.scale_at.new.self a c.top-level.result low high _
-    c.top-level.ensures.unchanged c.in_ok-parts.ensures.unchanged c.requires.good c.top-level.ensures.level c.scale_at.ensures.keeps
-    (scale_by_halves k v factor c.requires.good.1.allowed) c.in_ok-parts.ensures.parts c.scale_at.ensures.multiple
+    each_of_parts k (multiple factor) (scale_work factor) v c.split_one.new.self c.scale_at.new.self (plain g.K.Kind.extra_of c.args.a) c.in_ok-level.level
+    (plain g.K.Kind.extra_of c.in_ok-level.low) (plain g.K.Kind.extra_of c.in_ok-level.high) _ c.in_ok-level.ensures.unchanged c.requires.good c.scale_at.ensures.keeps
+    (scale_by_halves k v factor c.requires.good.1.allowed) c.in_ok-level.ensures.splits c.scale_at.ensures.multiple
 
 pub scale_at-returns-in_err-low-clause-multiple : goal.scale_at-returns-in_err-low-clause-multiple
 scale_at-returns-in_err-low-clause-multiple g t c = λ x s.

@@ -6,18 +6,19 @@ use Rattle.tables.specs.Table.{times}
 use Rattle.tables.specs.Fits.{weights_in_range}
 use Rattle.kind_laws.specs.Plain.{PlainEdge, plain, answered}
 use Rattle.kind_laws.specs.Scale.{scale_of, unscaled, scaled}
-use Rattle.diagram.specs.Calls.{CanPart, ArePartsOfBoth, IsOfBoth, IsOfParts, LieBelow, plain_parts}
+use Rattle.diagram.specs.Calls.{IsOfBoth, IsOfParts, plain_parts, plain_split}
 use Rattle.diagram.specs.Products.{product_work, mixed_products, high_products}
 use Rattle.diagram.specs.View.{View, letter_at, IsEdge, top_of}
 use Rattle.diagram.specs.declared.limit.Limit.{Limit}
 use Rattle.diagram.specs.declared.limit.Limit.TheVariants as limit
-use Rattle.diagram.proofs.BothLaws.{constant_is, constants_answer, HaveNode, can_part_first, can_part_second, parts_lie_below}
+use Rattle.diagram.proofs.BothLaws.{constant_is, constants_answer, HaveNode}
 use Rattle.diagram.proofs.CallLaws.{same_keeps, both_of_parts, both_unfit}
 use Rattle.diagram.proofs.LevelLaws.{still_edge, good_at}
 use Rattle.diagram.specs.declared.operation.Operation.TheVariants.{Product}
 use Rattle.diagram.proofs.FactoredProducts.{IsProduct, rests_product_refuses, second_scale_overflows, first_scale_overflows, scales_put_back}
 use Rattle.diagram.proofs.RememberedLaws.{known_both, both_result, swapped, product_with_zero}
 use Rattle.diagram.proofs.ScaledEdges.{unscaled_good}
+use Rattle.diagram.proofs.SplitLaws.{split_lies_below}
 use Rattle.diagram.proofs.StoreLaws.{keeps_on, keeps_itself}
 use Rattle.diagram.proofs.StepLaws.{first_refuses, second_refuses, last_answers, sum_step}
 use Rattle.diagram.proofs.ProductLaws.{mul_by_halves, product_covers_product, product_covers_operands}
@@ -105,40 +106,18 @@ product_of-returns-in_err-product-clause-product g t c =
     let b = plain g.K.Kind.extra_of c.args.b in
     refused_both k times (product_work v.letters) v c.mul_anew.new.self a b (plain g.K.Kind.extra_of) c.from_residual.result c.in_err-product.field-0.0 c.from_residual.ensures.1 c.in_err-product.ensures.product
 
-pub mul_anew-parts_of_both-requires-clause-a : goal.mul_anew-parts_of_both-requires-clause-a
-mul_anew-parts_of_both-requires-clause-a g t c = λ lives bounds.
+pub mul_anew-returns-in_err-split-clause-keeps : goal.mul_anew-returns-in_err-split-clause-keeps
+mul_anew-returns-in_err-split-clause-keeps g t c = same_keeps c.args.self.now c.split.new.self c.in_err-split.ensures.unchanged
+
+pub mul_anew-returns-in_err-split-clause-product : goal.mul_anew-returns-in_err-split-clause-product
+mul_anew-returns-in_err-split-clause-product g t c =
     let k = g.K.Kind.NAME in
     let v = c.args.self.now in
     let a = plain g.K.Kind.extra_of c.args.a in
     let b = plain g.K.Kind.extra_of c.args.b in
-    let have : HaveNode k v a b = record { first = c.requires.a_good; second = c.requires.b_good; some = c.requires.some_node } in
-    subst (λ (w : View). CanPart k w c.upper-level.result a) (sym c.upper-level.ensures.unchanged)
-    (can_part_first k v a b c.upper-level.result have c.upper-level.ensures.upper)
-
-pub mul_anew-parts_of_both-requires-clause-b : goal.mul_anew-parts_of_both-requires-clause-b
-mul_anew-parts_of_both-requires-clause-b g t c = λ lives bounds.
-    let k = g.K.Kind.NAME in
-    let v = c.args.self.now in
-    let a = plain g.K.Kind.extra_of c.args.a in
-    let b = plain g.K.Kind.extra_of c.args.b in
-    let have : HaveNode k v a b = record { first = c.requires.a_good; second = c.requires.b_good; some = c.requires.some_node } in
-    subst (λ (w : View). CanPart k w c.upper-level.result b) (sym c.upper-level.ensures.unchanged)
-    (can_part_second k v a b c.upper-level.result have c.upper-level.ensures.upper)
-
-pub mul_anew-returns-in_err-parts-clause-keeps : goal.mul_anew-returns-in_err-parts-clause-keeps
-mul_anew-returns-in_err-parts-clause-keeps g t c =
-    same_keeps c.args.self.now c.parts_of_both.new.self (c.in_err-parts.ensures.unchanged ∙ c.upper-level.ensures.unchanged)
-
-pub mul_anew-returns-in_err-parts-clause-product : goal.mul_anew-returns-in_err-parts-clause-product
-mul_anew-returns-in_err-parts-clause-product g t c =
-    let k = g.K.Kind.NAME in
-    let v = c.args.self.now in
-    let a = plain g.K.Kind.extra_of c.args.a in
-    let b = plain g.K.Kind.extra_of c.args.b in
-    refused_both k times (product_work v.letters) v c.parts_of_both.new.self a b (plain g.K.Kind.extra_of) c.from_residual.result limit.Overflow c.from_residual.ensures.1
-    (both_unfit k times (product_work v.letters) v c.upper-level.new.self c.parts_of_both.new.self a b c.upper-level.result c.in_err-parts.field-0.0
-    c.upper-level.ensures.unchanged c.in_err-parts.ensures.unchanged c.requires.a_good c.requires.b_good c.upper-level.ensures.upper
-    (mul_by_halves k v c.requires.a_good.1.allowed) (λ l x y. product_covers_operands k v.letters l x y) c.in_err-parts.ensures.parts)
+    refused_both k times (product_work v.letters) v c.split.new.self a b (plain g.K.Kind.extra_of) c.from_residual.result limit.Overflow c.from_residual.ensures.1
+    (both_unfit k times (product_work v.letters) v c.split.new.self a b c.in_err-split.field-0.0 c.in_err-split.ensures.unchanged c.requires.a_good c.requires.b_good
+    (mul_by_halves k v c.requires.a_good.1.allowed) (λ l x y. product_covers_operands k v.letters l x y) c.in_err-split.ensures.splits)
 
 pub mul_anew-mul_at-requires-after_bounds : goal.mul_anew-mul_at-requires-after_bounds
 mul_anew-mul_at-requires-after_bounds g t c = λ lives bounds.
@@ -146,28 +125,22 @@ mul_anew-mul_at-requires-after_bounds g t c = λ lives bounds.
     let v = c.args.self.now in
     let a = plain g.K.Kind.extra_of c.args.a in
     let b = plain g.K.Kind.extra_of c.args.b in
-    let parts = plain_parts g.K.Kind.extra_of c.in_ok-parts.parts in
-    let level = c.upper-level.result in
     let have : HaveNode k v a b = record { first = c.requires.a_good; second = c.requires.b_good; some = c.requires.some_node } in
-    let here = subst (λ (w : View). ArePartsOfBoth k w level a b (Ok parts)) c.upper-level.ensures.unchanged c.in_ok-parts.ensures.parts in
-    subst (λ (w : View). LieBelow k w level parts) (sym (c.in_ok-parts.ensures.unchanged ∙ c.upper-level.ensures.unchanged))
-    (parts_lie_below k v level a b parts
-    (can_part_first k v a b level have c.upper-level.ensures.upper)
-    (can_part_second k v a b level have c.upper-level.ensures.upper) here)
+    split_lies_below k v c.split.new.self a b (plain_split g.K.Kind.extra_of c.in_ok-split.split) have c.in_ok-split.ensures.unchanged c.in_ok-split.ensures.splits
 
 pub mul_anew-returns-clause-product : goal.mul_anew-returns-clause-product
 mul_anew-returns-clause-product g t c =
     let k = g.K.Kind.NAME in
     let v = c.args.self.now in
+    let x = c.split.new.self in
+    let w = c.mul_at.new.self in
     let a = plain g.K.Kind.extra_of c.args.a in
     let b = plain g.K.Kind.extra_of c.args.b in
-    let y = c.parts_of_both.new.self in
-    let parts = plain_parts g.K.Kind.extra_of c.in_ok-parts.parts in
-    let same = ap (λ (w : View). w.letters) (c.in_ok-parts.ensures.unchanged ∙ c.upper-level.ensures.unchanged) in
-    both_of_parts k times (product_work v.letters) v c.upper-level.new.self y c.mul_at.new.self a b c.upper-level.result parts _
-    c.upper-level.ensures.unchanged c.in_ok-parts.ensures.unchanged c.requires.a_good c.requires.b_good c.upper-level.ensures.upper c.mul_at.ensures.keeps
-    (mul_by_halves k v c.requires.a_good.1.allowed) c.in_ok-parts.ensures.parts
-    (subst (λ (ds : List Decomp). IsOfParts times (product_work ds) k y c.mul_at.new.self c.upper-level.result parts (answered (plain g.K.Kind.extra_of) c.mul_at.result)) same c.mul_at.ensures.product)
+    let split = plain_split g.K.Kind.extra_of c.in_ok-split.split in
+    let same = ap (λ (z : View). z.letters) c.in_ok-split.ensures.unchanged in
+    both_of_parts k times (product_work v.letters) v x w a b split _ c.in_ok-split.ensures.unchanged c.requires.a_good c.requires.b_good c.mul_at.ensures.keeps
+    (mul_by_halves k v c.requires.a_good.1.allowed) c.in_ok-split.ensures.splits
+    (subst (λ (ds : List Decomp). IsOfParts times (product_work ds) k x w split.level split.parts (answered (plain g.K.Kind.extra_of) c.mul_at.result)) same c.mul_at.ensures.product)
 
 pub shannon_product-returns-in_err-low-clause-product : goal.shannon_product-returns-in_err-low-clause-product
 shannon_product-returns-in_err-low-clause-product g t c = λ p q s.

@@ -4,20 +4,21 @@ use Rattle.word_base.specs.declared.kind_name.KindName.{KindName}
 use Rattle.tables.specs.Table.{plus}
 use Rattle.kind_laws.specs.Plain.{PlainEdge, plain, answered}
 use Rattle.kind_laws.specs.Scale.{shift_of, unshifted}
-use Rattle.diagram.specs.Calls.{CanPart, ArePartsOfBoth, IsOfBoth, LieBelow, plain_parts}
+use Rattle.diagram.specs.Calls.{IsOfBoth, plain_parts, plain_split}
 use Rattle.diagram.specs.Sums.{sum_work}
 use Rattle.diagram.specs.View.{View, IsEdge, top_of}
 use Rattle.diagram.specs.declared.limit.Limit.{Limit}
 use Rattle.diagram.specs.declared.limit.Limit.TheVariants as limit
 use Rattle.diagram.specs.declared.walk.Walk.{Walk}
 use Rattle.diagram.specs.declared.walk.Walk.TheVariants.{Stripping}
-use Rattle.diagram.proofs.BothLaws.{constant_is, constants_answer, HaveNode, can_part_first, can_part_second, parts_lie_below}
+use Rattle.diagram.proofs.BothLaws.{constant_is, constants_answer, HaveNode}
 use Rattle.diagram.proofs.CallLaws.{same_keeps, both_of_parts, both_unfit}
 use Rattle.diagram.proofs.FactoredSums.{AreQuotients, common_factor, common_nonzero, common_divides_first, common_divides_second, may_scale_factor, may_scale_first, may_scale_second, common_quotients, quotient_good, quotient_node, quotients_refuse, factor_overflows, factor_put_back}
 use Rattle.diagram.proofs.LevelLaws.{still_edge}
 use Rattle.diagram.specs.declared.operation.Operation.TheVariants.{Sum}
 use Rattle.diagram.proofs.RememberedLaws.{known_both, both_result}
 use Rattle.diagram.proofs.ShiftLaws.{unshifted_good}
+use Rattle.diagram.proofs.SplitLaws.{split_lies_below}
 use Rattle.diagram.proofs.StoreLaws.{keeps_on, keeps_itself}
 use Rattle.diagram.proofs.StrippedSums.{IsStripped, overflows_anyway, rests_refuse, put_overflows, shifts_put_back}
 use Rattle.diagram.proofs.SumLaws.{sum_by_halves, sum_covers_sum, sum_covers_operands}
@@ -98,40 +99,18 @@ sum_of-returns-in_err-sum-clause-sum g t c =
     let b = plain g.K.Kind.extra_of c.args.b in
     refused_both k plus (sum_work c.args.walk) v c.sum_anew.new.self a b (plain g.K.Kind.extra_of) c.from_residual.result c.in_err-sum.field-0.0 c.from_residual.ensures.1 c.in_err-sum.ensures.sum
 
-pub sum_anew-parts_of_both-requires-clause-a : goal.sum_anew-parts_of_both-requires-clause-a
-sum_anew-parts_of_both-requires-clause-a g t c = λ lives bounds.
+pub sum_anew-returns-in_err-split-clause-keeps : goal.sum_anew-returns-in_err-split-clause-keeps
+sum_anew-returns-in_err-split-clause-keeps g t c = same_keeps c.args.self.now c.split.new.self c.in_err-split.ensures.unchanged
+
+pub sum_anew-returns-in_err-split-clause-sum : goal.sum_anew-returns-in_err-split-clause-sum
+sum_anew-returns-in_err-split-clause-sum g t c =
     let k = g.K.Kind.NAME in
     let v = c.args.self.now in
     let a = plain g.K.Kind.extra_of c.args.a in
     let b = plain g.K.Kind.extra_of c.args.b in
-    let have : HaveNode k v a b = record { first = c.requires.a_good; second = c.requires.b_good; some = c.requires.some_node } in
-    subst (λ (w : View). CanPart k w c.upper-level.result a) (sym c.upper-level.ensures.unchanged)
-    (can_part_first k v a b c.upper-level.result have c.upper-level.ensures.upper)
-
-pub sum_anew-parts_of_both-requires-clause-b : goal.sum_anew-parts_of_both-requires-clause-b
-sum_anew-parts_of_both-requires-clause-b g t c = λ lives bounds.
-    let k = g.K.Kind.NAME in
-    let v = c.args.self.now in
-    let a = plain g.K.Kind.extra_of c.args.a in
-    let b = plain g.K.Kind.extra_of c.args.b in
-    let have : HaveNode k v a b = record { first = c.requires.a_good; second = c.requires.b_good; some = c.requires.some_node } in
-    subst (λ (w : View). CanPart k w c.upper-level.result b) (sym c.upper-level.ensures.unchanged)
-    (can_part_second k v a b c.upper-level.result have c.upper-level.ensures.upper)
-
-pub sum_anew-returns-in_err-parts-clause-keeps : goal.sum_anew-returns-in_err-parts-clause-keeps
-sum_anew-returns-in_err-parts-clause-keeps g t c =
-    same_keeps c.args.self.now c.parts_of_both.new.self (c.in_err-parts.ensures.unchanged ∙ c.upper-level.ensures.unchanged)
-
-pub sum_anew-returns-in_err-parts-clause-sum : goal.sum_anew-returns-in_err-parts-clause-sum
-sum_anew-returns-in_err-parts-clause-sum g t c =
-    let k = g.K.Kind.NAME in
-    let v = c.args.self.now in
-    let a = plain g.K.Kind.extra_of c.args.a in
-    let b = plain g.K.Kind.extra_of c.args.b in
-    refused_both k plus (sum_work c.args.walk) v c.parts_of_both.new.self a b (plain g.K.Kind.extra_of) c.from_residual.result limit.Overflow c.from_residual.ensures.1
-    (both_unfit k plus (sum_work c.args.walk) v c.upper-level.new.self c.parts_of_both.new.self a b c.upper-level.result c.in_err-parts.field-0.0
-    c.upper-level.ensures.unchanged c.in_err-parts.ensures.unchanged c.requires.a_good c.requires.b_good c.upper-level.ensures.upper
-    (sum_by_halves c.args.walk k v c.requires.a_good.1.allowed) (λ l x y. sum_covers_operands c.args.walk k v.letters l x y) c.in_err-parts.ensures.parts)
+    refused_both k plus (sum_work c.args.walk) v c.split.new.self a b (plain g.K.Kind.extra_of) c.from_residual.result limit.Overflow c.from_residual.ensures.1
+    (both_unfit k plus (sum_work c.args.walk) v c.split.new.self a b c.in_err-split.field-0.0 c.in_err-split.ensures.unchanged c.requires.a_good c.requires.b_good
+    (sum_by_halves c.args.walk k v c.requires.a_good.1.allowed) (λ l x y. sum_covers_operands c.args.walk k v.letters l x y) c.in_err-split.ensures.splits)
 
 pub sum_anew-sum_at-requires-after_bounds : goal.sum_anew-sum_at-requires-after_bounds
 sum_anew-sum_at-requires-after_bounds g t c = λ lives bounds.
@@ -139,14 +118,8 @@ sum_anew-sum_at-requires-after_bounds g t c = λ lives bounds.
     let v = c.args.self.now in
     let a = plain g.K.Kind.extra_of c.args.a in
     let b = plain g.K.Kind.extra_of c.args.b in
-    let parts = plain_parts g.K.Kind.extra_of c.in_ok-parts.parts in
-    let level = c.upper-level.result in
     let have : HaveNode k v a b = record { first = c.requires.a_good; second = c.requires.b_good; some = c.requires.some_node } in
-    let here = subst (λ (w : View). ArePartsOfBoth k w level a b (Ok parts)) c.upper-level.ensures.unchanged c.in_ok-parts.ensures.parts in
-    subst (λ (w : View). LieBelow k w level parts) (sym (c.in_ok-parts.ensures.unchanged ∙ c.upper-level.ensures.unchanged))
-    (parts_lie_below k v level a b parts
-    (can_part_first k v a b level have c.upper-level.ensures.upper)
-    (can_part_second k v a b level have c.upper-level.ensures.upper) here)
+    split_lies_below k v c.split.new.self a b (plain_split g.K.Kind.extra_of c.in_ok-split.split) have c.in_ok-split.ensures.unchanged c.in_ok-split.ensures.splits
 
 pub sum_anew-returns-clause-sum : goal.sum_anew-returns-clause-sum
 sum_anew-returns-clause-sum g t c =
@@ -154,10 +127,8 @@ sum_anew-returns-clause-sum g t c =
     let v = c.args.self.now in
     let a = plain g.K.Kind.extra_of c.args.a in
     let b = plain g.K.Kind.extra_of c.args.b in
-    let parts = plain_parts g.K.Kind.extra_of c.in_ok-parts.parts in
-    both_of_parts k plus (sum_work c.args.walk) v c.upper-level.new.self c.parts_of_both.new.self c.sum_at.new.self a b c.upper-level.result parts _
-    c.upper-level.ensures.unchanged c.in_ok-parts.ensures.unchanged c.requires.a_good c.requires.b_good c.upper-level.ensures.upper c.sum_at.ensures.keeps
-    (sum_by_halves c.args.walk k v c.requires.a_good.1.allowed) c.in_ok-parts.ensures.parts c.sum_at.ensures.sum
+    both_of_parts k plus (sum_work c.args.walk) v c.split.new.self c.sum_at.new.self a b (plain_split g.K.Kind.extra_of c.in_ok-split.split) _ c.in_ok-split.ensures.unchanged
+    c.requires.a_good c.requires.b_good c.sum_at.ensures.keeps (sum_by_halves c.args.walk k v c.requires.a_good.1.allowed) c.in_ok-split.ensures.splits c.sum_at.ensures.sum
 
 pub sum_at-returns-in_err-low-clause-sum : goal.sum_at-returns-in_err-low-clause-sum
 sum_at-returns-in_err-low-clause-sum g t c = λ x y s.

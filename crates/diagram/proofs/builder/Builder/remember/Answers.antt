@@ -10,10 +10,10 @@ invariant_of-self g c =
     let k = g.K.Kind.NAME in
     let v : View = record { store = g.S.Store.view c.self.inside.store; letters = c.self.inside.levels } in
     let r = plain g.K.Kind.extra_of c.args.answer in
-    let is = subst (λ (x : View). IsKept k x c.args.key r) (sym c.self.view_is) c.requires in
+    let is = subst (λ (x : View). IsKept k x c.args.key.now r) (sym c.self.view_is) c.requires in
     record {
       good = c.self.invariant.good;
       marked = c.self.invariant.marked;
-      right = kept_right is.operation k v is.first is.second r c.self.inside.cache c.keep.new.self c.args.key c.pack.result c.self.invariant.right is.is_key c.pack.ensures.words
+      right = kept_right is.operation k v is.first is.second r c.self.inside.cache c.keep.new.self c.args.key.now c.pack.result c.self.invariant.right is.is_key c.pack.ensures.words
           c.pack.ensures.fits is.first_good is.second_good is.is_result c.keep.ensures;
     }
