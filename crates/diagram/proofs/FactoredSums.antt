@@ -21,6 +21,7 @@ use Rattle.kind_laws.specs.Plain.{PlainEdge}
 use Rattle.kind_laws.specs.Scale.{scale_of, unscaled, MayScale, scaled}
 use Rattle.kind_laws.proofs.ScaleLaws.{scaled-keeps_node, unscaled-keeps_node}
 use Rattle.diagram.specs.Products.{AreSome}
+use Rattle.diagram.specs.SumRests.{IsQuotient, AreQuotients}
 use Rattle.diagram.specs.Sums.{sum_work}
 use Rattle.diagram.specs.View.{View, StandsAt, IsEdge, Keeps}
 use Rattle.diagram.specs.declared.limit.Limit.{Limit}
@@ -60,14 +61,6 @@ multiple_shape k ds l g t x factor is =
     sym (ap (λ (z : Table). (canonical k ds l z).shape) is ∙ ap (λ (z : Tree). z.shape) (factors_go_through k ds l g x factor))
 
 -- ---- quotients of edges
--- the edge over a divisor of its factor
-pub record IsQuotient (k : KindName) (g : ℤ) (a x : PlainEdge) : Type 0 where
-  pub some : scale_of k a.root ≢ pos 0
-  pub may : MayScale k g
-  pub left : ℤ
-  pub exact : g *ℤ left ≡ scale_of k a.root
-  pub is : x ≡ scaled k left (unscaled k a)
-
 left_nonzero : (k : KindName) (g : ℤ) (a x : PlainEdge) (q : IsQuotient k g a x) → q.left ≢ pos 0
 left_nonzero k g a x q z = q.some (sym q.exact ∙ ap (λ (y : ℤ). g *ℤ y) z ∙ *ℤ-zero g)
 
@@ -96,11 +89,6 @@ pub quotient_good : (k : KindName) (v : View) (g : ℤ) (a x : PlainEdge) → Is
 quotient_good k v g a x q h = let m = quotient_stands k v 0 g h.0 a x q h.1 in (m.rest, m.stands)
 
 -- ---- their sum
-pub record AreQuotients (k : KindName) (g : ℤ) (a b x y : PlainEdge) : Type 0 where
-  pub some : g ≢ pos 0
-  pub first : IsQuotient k g a x
-  pub second : IsQuotient k g b y
-
 record Rests (k : KindName) (v : View) (l : ℕ) (g : ℤ) (t u : Table) (x y : PlainEdge) : Type 0 where
   some : g ≢ pos 0
   may : MayScale k g

@@ -3,15 +3,20 @@ ghost use Rattle.diagram.specs.Calls.{CanPart};
 ghost use Rattle.diagram.specs.Cofactor.{IsHalf};
 ghost use Rattle.diagram.specs.View.{View, Keeps};
 
-use crate::builder::Builder;
 use crate::limit::Limit;
+use crate::manager::Manager;
 use kind_laws::{Edge, Kind};
 use record_store::Store;
 use word_base::Decomp;
 
-impl<K: Kind, S: Store> Builder<K, S> {
+impl<K: Kind, S: Store> Manager<K, S> {
     /// The half of an edge's table where a level's variable is the bit.
-    pub fn cofactor(&mut self, edge: Edge<K>, level: u16, bit: bool) -> Result<Edge<K>, Limit>
+    pub(crate) fn cofactor(
+        &mut self,
+        edge: Edge<K>,
+        level: u16,
+        bit: bool,
+    ) -> Result<Edge<K>, Limit>
         requires { CanPart K.NAME self.old level (plain K.extra_of edge) }
         ensures keeps { Keeps self.old self.new }
         ensures half { IsHalf K.NAME self.old self.new level bit (plain K.extra_of edge)

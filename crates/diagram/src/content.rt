@@ -7,15 +7,15 @@ ghost use Rattle.diagram.specs.Contents.{GathersContents};
 ghost use Rattle.diagram.specs.Totals.{IsContent};
 ghost use Rattle.diagram.specs.View.{IsEdge};
 
-use crate::builder::Builder;
+use crate::manager::Manager;
 use kind_laws::{Edge, Kind, children, gcd};
 use marks::Marks;
 use record_store::Store;
 use word_base::Weight;
 
-impl<K: Kind, S: Store> Builder<K, S> {
+impl<K: Kind, S: Store> Manager<K, S> {
     /// The greatest common divisor of the entries of an edge's table, 0 where all are 0.
-    pub fn content(&mut self, edge: Edge<K>) -> Weight
+    pub(crate) fn content(&mut self, edge: Edge<K>) -> Weight
         requires { IsEdge K.NAME self.old (plain K.extra_of edge) }
         ensures content { IsContent K.NAME self.old (plain K.extra_of edge) result }
         ensures unchanged { self.new ≡ self.old }

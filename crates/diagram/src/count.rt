@@ -4,13 +4,13 @@ ghost use Rattle.diagram.specs.Totals.{IsCount};
 ghost use Rattle.diagram.specs.View.{IsEdge};
 
 use crate::below::mark_below;
-use crate::builder::Builder;
+use crate::manager::Manager;
 use kind_laws::{Edge, Kind};
 use record_store::Store;
 
-impl<K: Kind, S: Store> Builder<K, S> {
+impl<K: Kind, S: Store> Manager<K, S> {
     /// The number of different nodes below an edge, the leaf not counted.
-    pub fn count(&mut self, edge: Edge<K>) -> u32
+    pub(crate) fn count(&mut self, edge: Edge<K>) -> u32
         requires { IsEdge K.NAME self.old (plain K.extra_of edge) }
         ensures count { IsCount K.NAME self.old (plain K.extra_of edge) result }
         ensures unchanged { self.new ≡ self.old }

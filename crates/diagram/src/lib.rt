@@ -9,12 +9,18 @@ mod content;
 mod count;
 mod difference;
 mod limit;
+mod manager;
 mod multiple;
+mod multiple_walk;
 mod operation;
 mod parts;
 mod product;
+mod product_walk;
 mod split;
+mod step;
 mod sum;
+mod sum_rests;
+mod sum_walk;
 #[cfg(test)]
 mod tests;
 mod walk;

@@ -6,18 +6,18 @@ ghost use Rattle.diagram.specs.Calls.{IsOfBoth, IsOfParts, LieBelow, plain_parts
 ghost use Rattle.diagram.specs.Products.{product_work, mixed_products, high_products, IsBelowParts, AreSome};
 ghost use Rattle.diagram.specs.View.{View, letter_at, IsEdge, Keeps};
 
-use crate::builder::Builder;
 use crate::limit::Limit;
+use crate::manager::Manager;
 use crate::operation::Operation;
 use crate::parts::{Parts, are_constants};
 use kind_laws::{Edge, Kind};
 use record_store::Store;
 use word_base::{Decomp, Weight};
 
-impl<K: Kind, S: Store> Builder<K, S> {
+impl<K: Kind, S: Store> Manager<K, S> {
     /// The product, entry by entry.
     #[cycle(product)]
-    pub fn mul(&mut self, a: Edge<K>, b: Edge<K>) -> Result<Edge<K>, Limit>
+    pub(crate) fn mul(&mut self, a: Edge<K>, b: Edge<K>) -> Result<Edge<K>, Limit>
         requires a_good { IsEdge K.NAME self.old (plain K.extra_of a) }
         requires b_good { IsEdge K.NAME self.old (plain K.extra_of b) }
         ensures keeps { Keeps self.old self.new }

@@ -8,8 +8,8 @@ ghost use Rattle.diagram.specs.Sums.{sum_work};
 ghost use Rattle.diagram.specs.View.{View, IsEdge, Keeps};
 ghost use Rattle.diagram.specs.declared.walk.Walk.TheVariants as by;
 
-use crate::builder::Builder;
 use crate::limit::Limit;
+use crate::manager::Manager;
 use crate::multiple::has_factors;
 use crate::operation::Operation;
 use crate::parts::{Parts, are_constants};
@@ -19,9 +19,9 @@ use record_store::Store;
 use weights::{exact_div, signed_gcd};
 use word_base::Weight;
 
-impl<K: Kind, S: Store> Builder<K, S> {
+impl<K: Kind, S: Store> Manager<K, S> {
     /// The sum, entry by entry.
-    pub fn add(&mut self, a: Edge<K>, b: Edge<K>) -> Result<Edge<K>, Limit>
+    pub(crate) fn add(&mut self, a: Edge<K>, b: Edge<K>) -> Result<Edge<K>, Limit>
         requires a_good { IsEdge K.NAME self.old (plain K.extra_of a) }
         requires b_good { IsEdge K.NAME self.old (plain K.extra_of b) }
         ensures keeps { Keeps self.old self.new }

@@ -1,0 +1,17 @@
+/// What a walk does next.
+#[derive(Clone, Copy, Debug, PartialEq, Eq)]
+pub(crate) enum Step<B, A> {
+    /// It goes on with a part of the operands.
+    Below(B),
+    /// It answers the call that it is at.
+    Answer(A),
+}
+
+/// How a call begins.
+#[derive(Drop)]
+pub(crate) enum Begun<F, B, A> {
+    /// Its answer is known.
+    Known(A),
+    /// It waits in a frame for that of a part.
+    Waiting(F, B),
+}
