@@ -1,7 +1,6 @@
 -- What a walk over a store marks.
-use Rattle.std.proofs.Common.{◌≡◌, sym, ◌∙◌, ap, subst, ℕ, ◌+◌, ◌-◌, ◌<◌, ◌≤◌, ◌^◌, List, [], ◌∷◌, Bool, true, false, length, drop, arith, add-one, inl, inr}
-use Rattle.std.specs.Prelude.{Some, None, if◌then◌else◌, slice_index}
-use Rattle.std.specs.Option.{option_map_or}
+use Rattle.std.proofs.Common.{◌≡◌, refl, sym, ◌∙◌, ap, subst, ℕ, zero, suc, ◌+◌, ◌<◌, ◌≤◌, List, [], ◌∷◌, Bool, true, false, length, drop, arith, add-one, inl, inr}
+use Rattle.std.specs.Prelude.{Some, None, if◌then◌else◌}
 use Rattle.std.proofs.lemmas.Bool.{or_cases, or_left, or_right, false_from_ne_true}
 use Rattle.std.proofs.lemmas.Option.{same_Some}
 use Rattle.word_base.specs.declared.decomp.Decomp.{Decomp}
@@ -9,7 +8,7 @@ use Rattle.word_base.specs.declared.kind_name.KindName.{KindName}
 use Rattle.word_base.specs.declared.kind_name.KindName.TheVariants.{Evbdd, StarBmd, Hdd, KStarBmd}
 use Rattle.marks.specs.Marked.{none_of, is_marked, with_mark, marked_count}
 use Rattle.marks.proofs.SetLaws.{none_has, none_count, has_the_new, has_from, has_still, one_more_counted}
-use Rattle.record_store.specs.StoreView.{StoreView, find_in}
+use Rattle.record_store.specs.StoreView.{find_in}
 use Rattle.tables.specs.Tree.{Weights, Shape, leaf, node, Tree, same_shape, skips, node_join}
 use Rattle.tables.specs.Canonical.{canonical, IsCanonical, IsNodeOf, has, add_nodes, nodes}
 use Rattle.tables.proofs.CanonicalLaws.{rule_of}
@@ -22,11 +21,12 @@ use Rattle.kind_laws.specs.Plain.{PlainEdge}
 use Rattle.kind_laws.specs.declared.fields.Fields.{Fields}
 use Rattle.kind_laws.proofs.BodyLaws.{body_of-tells}
 use Rattle.kind_laws.proofs.GraphLaws.{same_shape_of_id, same_id_of_shape, leaf_of_zero}
-use Rattle.diagram.specs.Below.{Descends, IsStart, IsNumbered, IsClosed, AreMarked, MarksNodes}
+use Rattle.diagram.specs.Below.{Descends, IsStart, IsNumbered, HasLevels, IsDone, IsClosed, AreMarked, MarksNodes}
 use Rattle.result_cache.specs.Cache.{Places}
 use Rattle.diagram.specs.Inside.{IsSound}
 use Rattle.diagram.specs.Totals.{IsCount}
 use Rattle.diagram.specs.View.{View, StandsAt, IsEdge}
+use Rattle.diagram.proofs.LevelLaws.{node_of_edge}
 use Rattle.diagram.proofs.NodeLists.{from_level, added_closed, known_adds_none}
 
 -- ---- levels
@@ -59,12 +59,24 @@ edge_starts k v e h = record {
   descends = canonical_descends k v.letters 0 (canonical k v.letters 0 h.0) (canonical_stands k (rule_of k) v.letters 0 h.0 h.1.allowed h.1.stands.over).0;
 }
 
-pub sound_is_numbered : (k : KindName) (v : View) (cache : Places) (marks : List Bool) → IsSound k v cache marks → IsNumbered (find_in v.store) (length marks)
-sound_is_numbered k v cache marks sound = record {
-  no_zero = sound.good.store.no_zero;
-  distinct = sound.good.store.distinct;
-  within = λ id body known. let low = sound.marked.within id body known in let room = sound.marked.room in omega arith;
-}
+pub sound_has_levels : (k : KindName) (v w : View) (cache : Places) (marks : List Bool) (levels : ℕ) → w ≡ v → IsSound k w cache marks → length v.letters ≤ levels →
+    HasLevels (find_in w.store) levels
+sound_has_levels k v w cache marks levels same sound room id f fits known =
+    let s = sound.good.store.good id (body_of f) known in
+    let e : PlainEdge = record { root = s.1; node = id } in
+    let start : 0 ≤ length w.letters = omega arith in
+    let stands : StandsAt k w 0 s.0 e = record { allowed = sound.good.allowed; no_zero = sound.good.store.no_zero; within = start; stands = s.2 } in
+    let no_zero = sound.good.store.no_zero in
+    let letters : length w.letters ≡ length v.letters = ap (λ (x : View). length x.letters) same in
+    let Inside : Type 0 = f.level < levels in
+    elim (node_of_edge k w 0 s.0 e stands) as (λ _. Inside) [
+      | inl bare ↦ let clash : Some (body_of f) ≡ None = sym known ∙ ap (find_in w.store) bare ∙ no_zero in absurd (cc)
+      | inr n ↦
+          let one : n.fields ≡ f = body_of-tells n.fields f n.fits fits (same_Some _ _ (sym n.known ∙ known)) in
+          let level : n.fields.level ≡ f.level = ap (λ (x : Fields). x.level) one in
+          let below : n.fields.level < 0 + length w.letters = n.below in
+          omega arith
+    ]
 
 -- an id that is not the leaf's is that of a node
 pub record IsInner (k : KindName) (find : Lookup) (id : ℕ) : Type 0 where
@@ -103,18 +115,6 @@ inner_at k find id no_zero start apart = at start.shape start.has_shape start.de
       high_deeper = λ f fits known. subst (λ (n : ℕ). n < f.level) (sym h.level_is) (level_below k find l h.fields.high r f no_zero h.high d.2 fits known);
     }
 
--- how many levels are left at an id, none at the leaf
-abbrev pub levels_left : Lookup → ℕ → ℕ
-levels_left find id = option_map_or (λ body. 2 ^ 16 + 1 - slice_index body 0) (find id) 0
-
-pub falls_below : (k : KindName) (find : Lookup) (id child : ℕ) (f : Fields) → find 0 ≡ None → FitsBody f → find id ≡ Some (body_of f) → IsStart k find child →
-    ((g : Fields) → FitsBody g → find child ≡ Some (body_of g) → f.level < g.level) → levels_left find child < levels_left find id
-falls_below k find id child f no_zero fits known start deeper = rw known (at start.shape start.has_shape)
-  where
-    at : (s : Shape) → HasShape k find child s → levels_left find child < 2 ^ 16 + 1 - (f.level + 1)
-    at leaf h = let fit = fits.level in rw (h, no_zero) (omega arith)
-    at (node l a s b r) h = let low = deeper h.fields h.fits h.known in let fit = h.fits.level in rw h.known (omega arith)
-
 -- ---- what is marked
 pub none_marked : (k : KindName) (find : Lookup) (cells : ℕ) → AreMarked k find (none_of cells) []
 none_marked k find cells = record {
@@ -128,7 +128,7 @@ none_marked k find cells = record {
 abbrev pub AddsNone : KindName → Lookup → ℕ → List Bool → Type 0
 AddsNone k find id marks = (s : Shape) (found : List Shape) → HasShape k find id s → AreMarked k find marks found → add_nodes s found ≡ found
 
-pub leaf_adds_none : (k : KindName) (find : Lookup) (id : ℕ) (marks : List Bool) → find 0 ≡ None → id ≡ 0 → AddsNone k find id marks
+leaf_adds_none : (k : KindName) (find : Lookup) (id : ℕ) (marks : List Bool) → find 0 ≡ None → id ≡ 0 → AddsNone k find id marks
 leaf_adds_none k find id marks no_zero z s found shape met =
     ap (λ (x : Shape). add_nodes x found) (leaf_of_zero k find no_zero s (subst (λ (i : ℕ). HasShape k find i s) z shape))
 
@@ -139,9 +139,14 @@ was_found k find id s marks found no_zero above shape met h =
     let other = met.shapes id above h in
     subst (λ (x : Shape). has found x ≡ true) (same_shape_of_id k find no_zero id other.0 s other.1 shape) other.2
 
-pub marked_adds_none : (k : KindName) (find : Lookup) (id : ℕ) (marks : List Bool) → find 0 ≡ None → (id ≡ 0 → ⊥) → is_marked marks id ≡ true → AddsNone k find id marks
+marked_adds_none : (k : KindName) (find : Lookup) (id : ℕ) (marks : List Bool) → find 0 ≡ None → (id ≡ 0 → ⊥) → is_marked marks id ≡ true → AddsNone k find id marks
 marked_adds_none k find id marks no_zero apart h s found shape met =
     let above : 0 < id = omega arith in known_adds_none s found met.closed (was_found k find id s marks found no_zero above shape met h)
+
+pub done_adds_none : (k : KindName) (find : Lookup) (id : ℕ) (marks : List Bool) → find 0 ≡ None → IsDone marks id → AddsNone k find id marks
+done_adds_none k find zero marks no_zero done = leaf_adds_none k find zero marks no_zero refl
+done_adds_none k find (suc i) marks no_zero (inl same) = absurd (omega arith)
+done_adds_none k find (suc i) marks no_zero (inr met) = marked_adds_none k find (suc i) marks no_zero (λ is. omega arith) met
 
 pub none_marks : (k : KindName) (find : Lookup) (id : ℕ) (marks : List Bool) → AddsNone k find id marks → MarksNodes k find id marks marks
 none_marks k find id marks none s found shape met = subst (AreMarked k find marks) (sym (none s found shape met)) met
@@ -195,16 +200,6 @@ low_starts k find id low high step = subst (IsStart k find) (sym step.low_is) st
 
 pub high_starts : (k : KindName) (find : Lookup) (id low high : ℕ) → IsStep k find id low high → IsStart k find high
 high_starts k find id low high step = subst (IsStart k find) (sym step.high_is) step.inner.high
-
-pub low_falls : (k : KindName) (find : Lookup) (id low high : ℕ) → find 0 ≡ None → IsStep k find id low high → levels_left find low < levels_left find id
-low_falls k find id low high no_zero step =
-    let n = step.inner in
-    subst (λ (i : ℕ). levels_left find i < levels_left find id) (sym step.low_is) (falls_below k find id n.fields.low n.fields no_zero n.fits n.known n.low n.low_deeper)
-
-pub high_falls : (k : KindName) (find : Lookup) (id low high : ℕ) → find 0 ≡ None → IsStep k find id low high → levels_left find high < levels_left find id
-high_falls k find id low high no_zero step =
-    let n = step.inner in
-    subst (λ (i : ℕ). levels_left find i < levels_left find id) (sym step.high_is) (falls_below k find id n.fields.high n.fields no_zero n.fits n.known n.high n.high_deeper)
 
 -- ---- after the walks from both children
 pub record AreBothWalked (k : KindName) (find : Lookup) (id low high : ℕ) (old next new : List Bool) : Type 0 where
@@ -293,27 +288,6 @@ marks_node k find id low high old next new both s found shape met =
     let w = walked k find id low high old next new s found both shape met in
     subst (AreMarked k find (with_mark new id)) (sym w.added)
     (marked_with k find id new s w.below w.met (subst IsClosed w.added (added_closed s found met.closed)))
-
--- at the calls of a step: the store's view stays
-pub both_walked : (k : KindName) (v u w : StoreView) (id low high : ℕ) (body : List ℕ) (old next new : List Bool) (was : Bool) → IsStart k (find_in v) id →
-    IsNumbered (find_in v) (length old) → (id ≡ 0 → ⊥) → was ≡ is_marked old id → was ≡ false → find_in v id ≡ Some body → u ≡ v →
-    Reads body (λ f. low ≡ f.low) → Reads body (λ f. high ≡ f.high) → w ≡ u → length next ≡ length old → MarksNodes k (find_in u) low old next →
-    length new ≡ length next → MarksNodes k (find_in w) high next new → AreBothWalked k (find_in v) id low high old next new
-both_walked k v u w id low high body old next new was start numbered apart test unmarked known first low_reads high_reads second next_cells lows new_cells highs = record {
-  numbered = numbered;
-  start = start;
-  apart = apart;
-  free = sym test ∙ unmarked;
-  cells = new_cells ∙ next_cells;
-  step = step_at k (find_in v) id low high body numbered.no_zero start apart known low_reads high_reads;
-  lows = subst (λ (x : StoreView). MarksNodes k (find_in x) low old next) first lows;
-  highs = subst (λ (x : StoreView). MarksNodes k (find_in x) high next new) (second ∙ first) highs;
-}
-
--- what a walk from a child asks, where the view stays
-pub numbered_still : (v w : StoreView) (old new : List Bool) → w ≡ v → length new ≡ length old → IsNumbered (find_in v) (length old) → IsNumbered (find_in w) (length new)
-numbered_still v w old new same cells h =
-    subst (λ (x : StoreView). IsNumbered (find_in x) (length new)) (sym same) (subst (λ (n : ℕ). IsNumbered (find_in v) n) (sym cells) h)
 
 -- after the walk from the low child some nodes are marked
 pub low_marked : (k : KindName) (find : Lookup) (id low high : ℕ) (old next : List Bool) (found : List Shape) → IsStep k find id low high → MarksNodes k find low old next →

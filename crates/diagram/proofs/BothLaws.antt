@@ -1,5 +1,5 @@
 -- Constants of two operands, and the parts of both.
-use Rattle.std.proofs.Common.{◌≡◌, refl, sym, ◌∙◌, ap, subst, ℕ, zero, suc, ◌+◌, ◌≤◌, ◌≢◌, ℤ, List, [], ◌∷◌, true, false, length, drop, min, arith}
+use Rattle.std.proofs.Common.{◌≡◌, refl, sym, ◌∙◌, ap, subst, ℕ, zero, suc, ◌+◌, ◌<◌, ◌≤◌, ◌≢◌, ℤ, List, [], ◌∷◌, true, false, length, drop, min, arith}
 use Rattle.std.specs.Prelude.{None, Result, Ok, Err, IsErr, MatchResult}
 use Rattle.std.specs.Result.{OkIff}
 use Rattle.word_base.specs.Range.{InRange}
@@ -17,10 +17,10 @@ use Rattle.kind_laws.specs.Graph.{StandsFor}
 use Rattle.kind_laws.specs.Plain.{PlainEdge, constant_edge, answered}
 use Rattle.kind_laws.proofs.GraphLaws.{same_table_of_edge, constant_of_leaf}
 use Rattle.diagram.specs.Answers.{Answers}
-use Rattle.diagram.specs.Calls.{CanPart, LiesBelow, LieBelow, PlainParts, ArePartsOfBoth, IsConstantOf}
-use Rattle.diagram.specs.View.{View, StandsAt, IsEdge, top_of}
+use Rattle.diagram.specs.Calls.{CanPart, LiesBelow, LieBelow, PlainParts, ArePartsOfBoth, IsConstantOf, upper}
+use Rattle.diagram.specs.View.{View, StandsAt, IsEdge, Keeps, top_of}
 use Rattle.diagram.specs.declared.limit.Limit.{Limit}
-use Rattle.diagram.proofs.LevelLaws.{allowed_from, from_level, leaf_at_end, good_at, stands_somewhere, top_within}
+use Rattle.diagram.proofs.LevelLaws.{allowed_from, from_level, leaf_at_end, good_at, stands_somewhere, still_edge, same_top, top_within}
 use Rattle.diagram.proofs.PartLaws.{constant_stands}
 use Rattle.diagram.proofs.JoinCauses.{answers_at_once, answers_overflow}
 
@@ -108,6 +108,23 @@ pub lies_below : (k : KindName) (v : View) (level : ℕ) (t : Table) (e : PlainE
 lies_below k v level t e h =
     let from = from_level k v (level + 1) t e h in
     record { good = good_at k v e (level + 1) t h; below = omega arith }
+
+pub still_below : (k : KindName) (v w : View) (level : ℕ) (e : PlainEdge) → Keeps v w → LiesBelow k v level e → LiesBelow k w level e
+still_below k v w level e keeps h = record {
+  good = still_edge k v w e keeps h.good;
+  below = subst (λ (n : ℕ). level < n) (sym (same_top k v w e keeps h.good)) h.below;
+}
+
+-- two edges lie below a level
+pub record PairLies (k : KindName) (v : View) (level : ℕ) (a b : PlainEdge) : Type 0 where
+  pub first : LiesBelow k v level a
+  pub second : LiesBelow k v level b
+
+below_both : (level m n : ℕ) → level < m → level < n → level < min m n
+below_both level m n first second = omega arith
+
+pub pair_deeper : (k : KindName) (v : View) (level : ℕ) (a b : PlainEdge) → PairLies k v level a b → level < upper v a b
+pair_deeper k v level a b lie = below_both level (top_of v a.node) (top_of v b.node) lie.first.below lie.second.below
 
 -- the parts of two good edges lie below the level
 pub parts_lie_below : (k : KindName) (v : View) (level : ℕ) (a b : PlainEdge) (parts : PlainParts) → CanPart k v level a → CanPart k v level b →

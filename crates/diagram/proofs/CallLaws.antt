@@ -191,9 +191,6 @@ both_from_top k v w op work a b level r good_a good_b is keeps halving step l t 
     both_at k v w op work a b r (level - l) l level sum (omega arith) (omega arith) (omega arith) keeps halving step t u h g
 
 -- ---- at a view that did not change
-pub same_keeps : (v w : View) → w ≡ v → Keeps v w
-same_keeps v w e = subst (Keeps v) (sym e) (keeps_itself v)
-
 -- an operation on two edges, from what it makes of their parts
 pub both_of_parts : (k : KindName) (op : Table → Table → Table) (work : ℕ → Table → Table → List Piece) (v x w : View) (a b : PlainEdge) (split : PlainSplit)
     (r : Result PlainEdge Limit) → x ≡ v → IsEdge k v a → IsEdge k v b → Keeps x w → BothByHalves k v op work →

@@ -20,16 +20,15 @@ use Rattle.tables.proofs.TableLaws.{both_halves, each-plus}
 use Rattle.kind_laws.specs.Plain.{PlainEdge}
 use Rattle.kind_laws.specs.Scale.{scale_of, unscaled, MayScale, scaled}
 use Rattle.kind_laws.proofs.ScaleLaws.{scaled-keeps_node, unscaled-keeps_node}
-use Rattle.diagram.specs.Products.{AreSome}
+use Rattle.diagram.specs.SumRests.{IsQuotient, AreQuotients}
 use Rattle.diagram.specs.Sums.{sum_work}
 use Rattle.diagram.specs.View.{View, StandsAt, IsEdge, Keeps}
 use Rattle.diagram.specs.declared.limit.Limit.{Limit}
-use Rattle.diagram.specs.declared.limit.Limit.TheVariants as limit
 use Rattle.diagram.specs.declared.walk.Walk.TheVariants.{Stripping}
-use Rattle.diagram.proofs.CallLaws.{Ran, ran_nothing, ran_then, refuses_then, ran_overflows}
+use Rattle.diagram.proofs.CallLaws.{Ran, ran_nothing, ran_then, refuses_then}
 use Rattle.diagram.proofs.JoinCauses.{no_cause}
-use Rattle.diagram.proofs.ScaledEdges.{is_factor, scaled_stands, unscaled_stands, some_scale}
-use Rattle.diagram.proofs.StrippedSums.{same_shapes_covered, unfit_anyway, IsStripped}
+use Rattle.diagram.proofs.ScaledEdges.{is_factor, scaled_stands, unscaled_stands}
+use Rattle.diagram.proofs.StrippedSums.{same_shapes_covered, IsStripped}
 
 -- ---- common factors
 may_scale_common : (k : KindName) (v w : Weights) → MayScale k (signed_gcd (scale_of k v) (scale_of k w) (pos 0))
@@ -60,14 +59,6 @@ multiple_shape k ds l g t x factor is =
     sym (ap (λ (z : Table). (canonical k ds l z).shape) is ∙ ap (λ (z : Tree). z.shape) (factors_go_through k ds l g x factor))
 
 -- ---- quotients of edges
--- the edge over a divisor of its factor
-pub record IsQuotient (k : KindName) (g : ℤ) (a x : PlainEdge) : Type 0 where
-  pub some : scale_of k a.root ≢ pos 0
-  pub may : MayScale k g
-  pub left : ℤ
-  pub exact : g *ℤ left ≡ scale_of k a.root
-  pub is : x ≡ scaled k left (unscaled k a)
-
 left_nonzero : (k : KindName) (g : ℤ) (a x : PlainEdge) (q : IsQuotient k g a x) → q.left ≢ pos 0
 left_nonzero k g a x q z = q.some (sym q.exact ∙ ap (λ (y : ℤ). g *ℤ y) z ∙ *ℤ-zero g)
 
@@ -96,11 +87,6 @@ pub quotient_good : (k : KindName) (v : View) (g : ℤ) (a x : PlainEdge) → Is
 quotient_good k v g a x q h = let m = quotient_stands k v 0 g h.0 a x q h.1 in (m.rest, m.stands)
 
 -- ---- their sum
-pub record AreQuotients (k : KindName) (g : ℤ) (a b x y : PlainEdge) : Type 0 where
-  pub some : g ≢ pos 0
-  pub first : IsQuotient k g a x
-  pub second : IsQuotient k g b y
-
 record Rests (k : KindName) (v : View) (l : ℕ) (g : ℤ) (t u : Table) (x y : PlainEdge) : Type 0 where
   some : g ≢ pos 0
   may : MayScale k g
@@ -150,13 +136,6 @@ rests_ran k v w l g t u x y rest m keeps sum =
     ran_then k v v w (sum_work Stripping l t u) _ l _ (Ok rest) (ran_nothing k v (sum_work Stripping l t u)) keeps (rests_covered k v l g t u x y m)
     (sum l m.first.rest m.second.rest m.first.stands m.second.stands)
 
--- the sum with the factor put back is no edge
-pub factor_overflows : (k : KindName) (v w : View) (g : ℤ) (a b x y rest : PlainEdge) → AreQuotients k g a b x y → Keeps v w →
-    IsStripped k v w x y (Ok rest) → IsStripped k v w a b (Err limit.Overflow)
-factor_overflows k v w g a b x y rest q keeps sum l t u h j =
-    ran_overflows k v w (sum_work Stripping l t u) l (plus t u) (rests_ran k v w l g t u x y rest (rests_of k v l g t u a b x y q h j) keeps sum)
-    (unfit_anyway k v.letters l t u)
-
 pub factor_put_back : (k : KindName) (v w : View) (g : ℤ) (a b x y rest total : PlainEdge) → AreQuotients k g a b x y → Keeps v w →
     total ≡ scaled k g rest → IsStripped k v w x y (Ok rest) → IsStripped k v w a b (Ok total)
 factor_put_back k v w g a b x y rest total q keeps is sum l t u h j =
@@ -178,16 +157,6 @@ pub record IsCommon (k : KindName) (s r g : ℤ) (a b : PlainEdge) : Type 0 wher
   pub first : s ≡ scale_of k a.root
   pub second : r ≡ scale_of k b.root
   pub is : g ≡ signed_gcd s r (pos 0)
-
-pub common_factor : (k : KindName) (v : View) (s r g : ℤ) (a b : PlainEdge) → IsEdge k v a → IsEdge k v b → AreSome k a b → s ≡ scale_of k a.root →
-    r ≡ scale_of k b.root → g ≡ signed_gcd s r (pos 0) → IsCommon k s r g a b
-common_factor k v s r g a b good_a good_b some first second is = record {
-  some_a = some_scale k v 0 good_a.0 a good_a.1 some.first;
-  some_b = some_scale k v 0 good_b.0 b good_b.1 some.second;
-  first = first;
-  second = second;
-  is = is;
-}
 
 pub common_nonzero : (k : KindName) (s r g : ℤ) (a b : PlainEdge) → IsCommon k s r g a b → g ≢ pos 0
 common_nonzero k s r g a b c z = c.some_a (sym c.first ∙ ((signed_gcd-is_zero s r (pos 0)).0 (sym c.is ∙ z)).0)

@@ -1,9 +1,11 @@
 -- What a walk over a store gathers.
 use Rattle.std.proofs.Common.{◌≡◌, refl, sym, ◌∙◌, ap, subst, ℕ, ℤ, pos, List, [], Bool, drop}
 use Rattle.std.specs.Prelude.{unsigned_abs}
+use Rattle.std.proofs.Math.Nat.{one-dvd}
+use Rattle.std.proofs.lemmas.Nat.Gcd.{dvd_refl}
 use Rattle.std.proofs.lemmas.Option.{same_Some}
 use Rattle.integers.specs.Gcd.{gcd}
-use Rattle.integers.proofs.GcdLaws.{gcd-zero_left, gcd-zero_right, gcd_comm, gcd_assoc}
+use Rattle.integers.proofs.GcdLaws.{gcd_is, gcd-zero_left, gcd-zero_right, gcd_comm, gcd_assoc}
 use Rattle.word_base.specs.declared.kind_name.KindName.{KindName}
 use Rattle.word_base.specs.declared.kind_name.KindName.TheVariants.{Evbdd, StarBmd, Hdd, KStarBmd}
 use Rattle.marks.specs.Marked.{none_of}
@@ -38,9 +40,9 @@ node_second : (n c m : ℕ) → gcd (gcd n c) m ≡ gcd (gcd n m) c
 node_second n c m = gcd_assoc n c m ∙ ap (gcd n) (gcd_comm c m) ∙ sym (gcd_assoc n m c)
 
 pub gathers_node : (k : KindName) (find : Lookup) (id low high : ℕ) (old next new : List Bool) (both : AreBothWalked k find id low high old next new)
-    (before own here then after : ℤ) → own ≡ pos (content_of_fields k both.step.inner.fields) → here ≡ pos (gcd (unsigned_abs before) (unsigned_abs own)) →
+    (before here then after : ℤ) → here ≡ pos (gcd (unsigned_abs before) (content_of_fields k both.step.inner.fields)) →
     GathersContents k find low old here then → GathersContents k find high next then after → GathersContents k find id old before after
-gathers_node k find id low high old next new both before own here then after own_is here_is lows highs s found n shape met is = at s shape
+gathers_node k find id low high old next new both before here then after here_is lows highs s found n shape met is = at s shape
   where
     at : (x : Shape) → HasShape k find id x → after ≡ pos (gcd n (contents k (add_nodes x found)))
     at leaf h = absurd (both.apart h)
@@ -51,7 +53,7 @@ gathers_node k find id low high old next new both before own here then after own
         let node_content : content_of_fields k f.fields ≡ m =
         ap (content_of_fields k) one ∙ fields_content k h.fields ∙ ap (λ (w : Weights). content_of_node k w (high_weights k h.fields)) h.low_is ∙ ap (content_of_node k a) h.high_is in
         let first : here ≡ pos (gcd (gcd n m) (contents k found)) =
-        here_is ∙ ap (λ (w : ℤ). pos (gcd (unsigned_abs w) (unsigned_abs own))) is ∙ ap (λ (w : ℤ). pos (gcd (gcd n (contents k found)) (unsigned_abs w))) own_is
+        here_is ∙ ap (λ (w : ℤ). pos (gcd (unsigned_abs w) (content_of_fields k f.fields))) is
         ∙ ap (λ (x : ℕ). pos (gcd (gcd n (contents k found)) x)) node_content
         ∙ ap pos (node_second n (contents k found) m) in
         let children = child_shapes k find id low high l a t b r both.step h in
@@ -59,6 +61,10 @@ gathers_node k find id low high old next new both before own here then after own
         let third : after ≡ pos (gcd (gcd n m) (contents k (add_nodes r (add_nodes t found)))) =
         highs r (add_nodes t found) (gcd n m) children.1 (both.lows t found children.0 met) second in
         third ∙ ap pos (gcd_assoc n m (contents k (add_nodes r (add_nodes t found)))) ∙ ap (λ (x : ℕ). pos (gcd n x)) (sym (node_added k l a t b r found))
+
+-- 1 and any number have the divisor 1 alone in common
+pub gcd-one_left : (n : ℕ) → gcd 1 n ≡ 1
+gcd-one_left n = gcd_is 1 n 1 (dvd_refl 1, one-dvd n, λ d p q. p)
 
 -- ---- the whole walk
 pub gathered : (k : KindName) (v w : View) (e : PlainEdge) (cells : ℕ) (old : List Bool) (before after : ℤ) → w ≡ v → old ≡ none_of cells →

@@ -1,6 +1,7 @@
 pub mod BelowLaws
 pub mod BothLaws
 pub mod CallLaws
+pub mod ChainLaws
 pub mod ContentLaws
 pub mod DifferenceLaws
 pub mod EachLaws
@@ -15,10 +16,15 @@ pub mod JoinLaws
 pub mod LevelLaws
 pub mod MultipleCalls
 pub mod MultipleLaws
+pub mod MultipleSteps
+pub mod MultipleWalk
 pub mod NodeLists
+pub mod NodeWalk
 pub mod PartLaws
 pub mod ProductCalls
 pub mod ProductLaws
+pub mod ProductSteps
+pub mod ProductWalk
 pub mod RememberedLaws
 pub mod SameLaws
 pub mod ScaledEdges
@@ -29,4 +35,8 @@ pub mod StoreLaws
 pub mod StrippedSums
 pub mod SumCalls
 pub mod SumLaws
+pub mod SumRestLaws
+pub mod SumSteps
+pub mod SumWalk
 pub mod VariableLaws
+pub mod WalkSteps

@@ -1,5 +1,5 @@
 -- The multiples of two parts, one after the other, and their join.
-use Rattle.std.proofs.Common.{◌≡◌, sym, ◌∙◌, ap, subst, ℕ, ◌+◌, ◌-◌, ◌*◌, ◌<◌, ℤ, List, length, arith}
+use Rattle.std.proofs.Common.{◌≡◌, sym, ◌∙◌, subst, ℕ, ◌+◌, ◌<◌, ℤ, List, length}
 use Rattle.std.specs.Prelude.{Result, Ok, Err}
 use Rattle.std.specs.Result.{IsErrAnd}
 use Rattle.word_base.specs.declared.decomp.Decomp.{Decomp}
@@ -8,26 +8,23 @@ use Rattle.tables.specs.Table.{Table, multiple, part0, part1, merged}
 use Rattle.tables.specs.Pieces.{scale_work, join_work}
 use Rattle.kind_laws.specs.Plain.{PlainEdge, answered}
 use Rattle.diagram.specs.Answers.{Answers}
-use Rattle.diagram.specs.Calls.{CanJoin, IsJoin, IsOfEach, PartLiesBelow, StandForPart}
-use Rattle.diagram.specs.View.{View, letter_at, top_of, Keeps}
+use Rattle.diagram.specs.Calls.{CanJoin, IsJoin, PartLiesBelow, StandForPart}
+use Rattle.diagram.specs.Multiples.{IsMultiple}
+use Rattle.diagram.specs.View.{View, letter_at, Keeps}
 use Rattle.diagram.specs.declared.limit.Limit.{Limit}
 use Rattle.diagram.proofs.BothLaws.{lies_below}
 use Rattle.diagram.proofs.CallLaws.{Ran, ran_nothing, ran_then, answers_then, refuses_then}
 use Rattle.diagram.proofs.JoinCauses.{refused}
-use Rattle.diagram.proofs.LevelLaws.{stays, same_top}
+use Rattle.diagram.proofs.LevelLaws.{stays}
 use Rattle.diagram.proofs.MultipleLaws.{MultipleCovers, multiple_covers}
 use Rattle.diagram.proofs.SumCalls.{somewhere}
-
--- the multiple of an edge, from one view to another
-abbrev IsMultiple : KindName → View → View → ℤ → PlainEdge → Result PlainEdge Limit → Type 0
-IsMultiple k v w c a result = IsOfEach (multiple c) (scale_work c) k v w a result
 
 covers_of : (k : KindName) (v : View) (l : ℕ) (c : ℤ) (t : Table) (low high : PlainEdge) → PartLiesBelow k v l low high → StandForPart k v l t low high →
     MultipleCovers k v l c t
 covers_of k v l c t low high below s = multiple_covers k v l c t s.low_stands.allowed below.within s.over
 
 pub low_multiple_refuses : {T : Type 0} (k : KindName) (v w : View) (l : ℕ) (c : ℤ) (t : Table) (low high : PlainEdge) (f : T → PlainEdge) (result : Result T Limit) (e : Limit) →
-    PartLiesBelow k v l low high → StandForPart k v l t low high → IsErrAnd result (λ y. y ≡ e) → Keeps v w → IsMultiple k v w c low (Err e) →
+    PartLiesBelow k v l low high → StandForPart k v l t low high → IsErrAnd result (λ y. y ≡ e) → Keeps v w → IsMultiple c k v w low (Err e) →
     Answers k v w (scale_work c l t) l (multiple c t) (answered f result)
 low_multiple_refuses k v w l c t low high f result e below s is keeps first =
     refused k v w (scale_work c l t) l (multiple c t) f result e is
@@ -36,26 +33,26 @@ low_multiple_refuses k v w l c t low high f result e below s is keeps first =
 
 -- the low multiple was made
 low_ran : (k : KindName) (v w : View) (l : ℕ) (c : ℤ) (t : Table) (low high : PlainEdge) (r : Result PlainEdge Limit) → PartLiesBelow k v l low high →
-    StandForPart k v l t low high → Keeps v w → IsMultiple k v w c low r → Ran k v w (scale_work c l t)
+    StandForPart k v l t low high → Keeps v w → IsMultiple c k v w low r → Ran k v w (scale_work c l t)
 low_ran k v w l c t low high r below s keeps first =
     ran_then k v v w (scale_work c l t) _ (l + 1) _ r (ran_nothing k v (scale_work c l t)) keeps (covers_of k v l c t low high below s).low (first (l + 1) _ s.low_stands)
 
 -- the high multiple, after it
 high_answers : (k : KindName) (v w x : View) (l : ℕ) (c : ℤ) (t : Table) (low high : PlainEdge) (r : Result PlainEdge Limit) → StandForPart k v l t low high →
-    Keeps v w → IsMultiple k w x c high r →
+    Keeps v w → IsMultiple c k w x high r →
     Answers k w x (scale_work c (l + 1) (part1 (letter_at v.letters l) t)) (l + 1) (multiple c (part1 (letter_at v.letters l) t)) r
 high_answers k v w x l c t low high r s keeps second = second (l + 1) _ (stays k v w (l + 1) _ high keeps s.high_stands)
 
 pub high_multiple_refuses : {T : Type 0} (k : KindName) (v w x : View) (l : ℕ) (c : ℤ) (t : Table) (low high made : PlainEdge) (f : T → PlainEdge) (result : Result T Limit) (e : Limit) →
-    PartLiesBelow k v l low high → StandForPart k v l t low high → IsErrAnd result (λ y. y ≡ e) → Keeps v w → IsMultiple k v w c low (Ok made) → Keeps w x →
-    IsMultiple k w x c high (Err e) → Answers k v x (scale_work c l t) l (multiple c t) (answered f result)
+    PartLiesBelow k v l low high → StandForPart k v l t low high → IsErrAnd result (λ y. y ≡ e) → Keeps v w → IsMultiple c k v w low (Ok made) → Keeps w x →
+    IsMultiple c k w x high (Err e) → Answers k v x (scale_work c l t) l (multiple c t) (answered f result)
 high_multiple_refuses k v w x l c t low high made f result e below s is keeps first later second =
     refused k v x (scale_work c l t) l (multiple c t) f result e is
     (refuses_then k v w x (scale_work c l t) _ l (l + 1) (multiple c t) _ e (low_ran k v w l c t low high (Ok made) below s keeps first) later
     (covers_of k v l c t low high below s).high (high_answers k v w x l c t low high (Err e) s keeps second))
 
 pub multiple_joins : (k : KindName) (v w x y : View) (l : ℕ) (c : ℤ) (t : Table) (low high first second : PlainEdge) (r : Result PlainEdge Limit) →
-    PartLiesBelow k v l low high → StandForPart k v l t low high → Keeps v w → IsMultiple k v w c low (Ok first) → Keeps w x → IsMultiple k w x c high (Ok second) →
+    PartLiesBelow k v l low high → StandForPart k v l t low high → Keeps v w → IsMultiple c k v w low (Ok first) → Keeps w x → IsMultiple c k w x high (Ok second) →
     Keeps x y → IsJoin k x y l first second r → Answers k v y (scale_work c l t) l (multiple c t) r
 multiple_joins k v w x y l c t low high first second r below s keeps is_first later is_second last join =
     let covers = covers_of k v l c t low high below s in
@@ -71,7 +68,7 @@ multiple_joins k v w x y l c t low high first second r below s keeps is_first la
     (answers_then k v x y (scale_work c l t) (join_work d l p q) l (merged d p q) r ran last covers.join answers)
 
 pub multiples_can_join : (k : KindName) (v w x : View) (l : ℕ) (c : ℤ) (low high first second : PlainEdge) → PartLiesBelow k v l low high →
-    Keeps v w → IsMultiple k v w c low (Ok first) → Keeps w x → IsMultiple k w x c high (Ok second) → CanJoin k x l first second
+    Keeps v w → IsMultiple c k v w low (Ok first) → Keeps w x → IsMultiple c k w x high (Ok second) → CanJoin k x l first second
 multiples_can_join k v w x l c low high first second below keeps is_first later is_second =
     let within = below.within in
     let a = somewhere k v l low within below.low_lies in
@@ -85,13 +82,3 @@ multiples_can_join k v w x l c low high first second below keeps is_first later 
       low_below = one.below;
       high_below = two.below;
     }
-
--- the node of the high part lies deeper, also after the low part's call
-pub falls_to_high_part : (k : KindName) (v w : View) (l : ℕ) (low high : PlainEdge) → PartLiesBelow k v l low high → Keeps v w →
-    4 * (length w.letters - top_of w high.node) + 3 < 4 * (length v.letters - l)
-falls_to_high_part k v w l low high below keeps =
-    let within = below.within in
-    let same = same_top k v w high keeps below.high_lies.good in
-    let deeper = below.high_lies.below in
-    let letters : length w.letters ≡ length v.letters = ap length keeps.letters in
-    omega arith

@@ -1,6 +1,6 @@
 -- What is remembered stays right: as the store grows, and where a result is kept. What is known of sums and products at once.
-use Rattle.std.proofs.Common.{◌≡◌, refl, sym, ◌∙◌, ap, subst, ℕ, zero, suc, ◌/◌, ◌%◌, ◌^◌, ℤ, pos, ◌+ℤ◌, ◌*ℤ◌, List, replicate, length, drop, arith, inl, inr}
-use Rattle.std.specs.Prelude.{None, Ok}
+use Rattle.std.proofs.Common.{◌≡◌, refl, sym, ◌∙◌, ap, subst, ℕ, zero, suc, ◌/◌, ◌%◌, ◌^◌, ℤ, pos, ◌+ℤ◌, ◌*ℤ◌, List, length, drop, arith, inl, inr}
+use Rattle.std.specs.Prelude.{Ok}
 use Rattle.std.specs.Int.{w128, cast_unsigned, cast_signed}
 use Rattle.std.proofs.Math.IntN.{+ℤ_comm, +ℤ_idl, *ℤ_comm, zero-*ℤ}
 use Rattle.word_base.specs.Range.{InRange}
@@ -8,7 +8,7 @@ use Rattle.word_base.specs.declared.kind_name.KindName.{KindName}
 use Rattle.record_store.specs.StoreView.{find_in}
 use Rattle.result_cache.specs.Cache.{Places, Holds, kept}
 use Rattle.result_cache.specs.declared.key.CacheKey.{CacheKey}
-use Rattle.result_cache.proofs.HeldLaws.{nothing_held, held_after}
+use Rattle.result_cache.proofs.HeldLaws.{held_after}
 use Rattle.tables.specs.Table.{Table, entry, halves, IsOver, zip_with, plus, times, each, multiple, constant_table}
 use Rattle.tables.specs.Pieces.{Piece}
 use Rattle.tables.proofs.TableLaws.{both_halves, each-identity, times_one}
@@ -130,10 +130,6 @@ right_stays k v w key value keeps right = record {
 
 pub all_stay : (k : KindName) (v w : View) (cache : Places) → Keeps v w → AreRight k v cache → AreRight k w cache
 all_stay k v w cache keeps right key value held = right_stays k v w key value keeps (right key value held)
-
--- an empty cache remembers nothing wrong
-pub empty_right : (k : KindName) (v : View) (n : ℕ) → AreRight k v (replicate n None)
-empty_right k v n key value held = absurd (nothing_held n key value held)
 
 -- ---- where a result is kept
 right_of_key : (o : Operation) (k : KindName) (v : View) (a b r : PlainEdge) (key : CacheKey) → IsKeyOf o k a b key → FitsEdge k r → IsEdge k v a → IsEdge k v b →

@@ -1,5 +1,5 @@
 -- The parts of an edge by the node that was read, and of two edges at the level of the upper node.
-use Rattle.std.proofs.Common.{◌≡◌, refl, sym, ◌∙◌, ap, subst, ℕ, ◌≢◌, List, [], ◌∷◌, min, inl, inr}
+use Rattle.std.proofs.Common.{◌≡◌, refl, sym, ◌∙◌, ap, subst, ℕ, ◌≢◌, List, min, inl, inr}
 use Rattle.std.specs.Prelude.{Some, Result, Ok, Err}
 use Rattle.std.proofs.lemmas.Bool.Decides.{eqb_tells}
 use Rattle.word_base.specs.declared.decomp.Decomp.{Decomp}
@@ -9,10 +9,10 @@ use Rattle.record_store.specs.StoreView.{find_in}
 use Rattle.kind_laws.specs.Body.{Reads}
 use Rattle.kind_laws.specs.Kind.{IsNodeBody, HasParts}
 use Rattle.kind_laws.specs.Plain.{PlainEdge}
-use Rattle.diagram.specs.Calls.{CanPart, ArePartsOf, ArePartsOfBoth, skipped_high, LieBelow, PartLiesBelow, IsNodeOf, ArePartsBy, SplitsOne, PlainSplit, Splits, upper}
+use Rattle.diagram.specs.Calls.{CanPart, ArePartsOf, ArePartsOfBoth, skipped_high, LieBelow, IsNodeOf, ArePartsBy, PlainSplit, Splits, upper}
 use Rattle.diagram.specs.View.{View, letter_at, IsEdge, top_of}
 use Rattle.diagram.proofs.BothLaws.{HaveNode, can_part_first, can_part_second, parts_lie_below, first_unfit, second_unfit}
-use Rattle.diagram.proofs.EachLaws.{can_part_at, part_lies_below}
+use Rattle.diagram.proofs.EachLaws.{can_part_at}
 use Rattle.diagram.proofs.LevelLaws.{top_of-node}
 use Rattle.diagram.proofs.PartLaws.{leaf_apart, skipped_parts_are, level_read, node_parts_are}
 
@@ -45,13 +45,6 @@ node_split k v d e level body result good some letter known is_body reads has =
     let is = level_read k v e.node level body known is_body reads in
     subst (λ (l : ℕ). ArePartsOf k v l e result) is
     (node_parts_are k v level d e body level result (can_part_at k v e level good some is) letter known is_body reads refl has)
-
-pub split_one_lies_below : (k : KindName) (v x : View) (e : PlainEdge) (level : ℕ) (low high : PlainEdge) → IsEdge k v e → e.node ≢ 0 → x ≡ v → SplitsOne k v e (Ok (level, low, high)) →
-    PartLiesBelow k x level low high
-split_one_lies_below k v x e level low high good some same splits =
-    subst (λ (z : View). PartLiesBelow k z level low high) (sym same)
-    (subst (λ (l : ℕ). PartLiesBelow k v l low high) (sym splits.0)
-    (part_lies_below k v (top_of v e.node) e low high (can_part_at k v e (top_of v e.node) good some refl) splits.1))
 
 -- ---- two edges
 -- two edges of which one leads to a node, their nodes, and the level of the upper one

@@ -12,7 +12,7 @@ use Rattle.diagram.specs.Answers.{Answers}
 use Rattle.diagram.specs.Calls.{IsJoin, IsOfEach, IsOfBoth}
 use Rattle.diagram.specs.View.{View, letter_at, StandsAt, Keeps}
 use Rattle.diagram.specs.declared.limit.Limit.{Limit}
-use Rattle.diagram.proofs.CallLaws.{Ran, ran_nothing, ran_then, answers_then, refuses_then}
+use Rattle.diagram.proofs.CallLaws.{Ran, ran_then, answers_then, refuses_then}
 use Rattle.diagram.proofs.JoinCauses.{refused}
 
 -- a call on the way, by pieces that those of the whole cover
@@ -34,21 +34,6 @@ step_refuses k v w x qs l m t u f result e is ran s =
 pub step_answers : (k : KindName) (v w x : View) (qs : List Piece) (l : ℕ) (t : Table) (r : Result PlainEdge Limit) → Ran k v w qs → Step k v.letters w x qs l t r →
     Answers k v x qs l t r
 step_answers k v w x qs l t r ran s = answers_then k v w x qs s.work l t r ran s.keeps s.covers s.answers
-
--- ---- two calls, and a last one
-pub first_refuses : {T : Type 0} (k : KindName) (v w : View) (qs : List Piece) (l m : ℕ) (t u : Table) (f : T → PlainEdge) (result : Result T Limit) (e : Limit) →
-    IsErrAnd result (λ y. y ≡ e) → Step k v.letters v w qs m u (Err e) → Answers k v w qs l t (answered f result)
-first_refuses k v w qs l m t u f result e is s = step_refuses k v v w qs l m t u f result e is (ran_nothing k v qs) s
-
-pub second_refuses : {T : Type 0} (k : KindName) (v w x : View) (qs : List Piece) (l m n : ℕ) (t u p : Table) (r : Result PlainEdge Limit) (f : T → PlainEdge) (result : Result T Limit)
-    (e : Limit) → IsErrAnd result (λ y. y ≡ e) → Step k v.letters v w qs m u r → Step k v.letters w x qs n p (Err e) → Answers k v x qs l t (answered f result)
-second_refuses k v w x qs l m n t u p r f result e is s z =
-    step_refuses k v w x qs l n t p f result e is (step_ran k v v w qs m u r (ran_nothing k v qs) s) z
-
-pub last_answers : (k : KindName) (v w x y : View) (qs : List Piece) (l m n : ℕ) (t u p : Table) (r q a : Result PlainEdge Limit) → Step k v.letters v w qs m u r →
-    Step k v.letters w x qs n p q → Step k v.letters x y qs l t a → Answers k v y qs l t a
-last_answers k v w x y qs l m n t u p r q a s z last =
-    step_answers k v x y qs l t a (step_ran k v w x qs n p q (step_ran k v v w qs m u r (ran_nothing k v qs) s) z) last
 
 -- ---- calls on edges
 pub each_step : (k : KindName) (ds : List Decomp) (op : Table → Table) (work : ℕ → Table → List Piece) (v w : View) (qs : List Piece) (l : ℕ) (t : Table) (a : PlainEdge)

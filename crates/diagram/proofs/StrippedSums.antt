@@ -119,12 +119,6 @@ rests_ran k v w l t u a b rest keeps h g sum =
     ran_then k v v w (sum_work Stripping l t u) _ l _ (Ok rest) (ran_nothing k v (sum_work Stripping l t u)) keeps (rests_covered k v l t u a b h g)
     (rests_answer k v w l t u a b (Ok rest) h g sum)
 
--- the sum with the shifts put back is no edge
-pub put_overflows : (k : KindName) (v w : View) (a b rest : PlainEdge) → Keeps v w → IsStripped k v w (unshifted k a) (unshifted k b) (Ok rest) →
-    IsStripped k v w a b (Err limit.Overflow)
-put_overflows k v w a b rest keeps sum l t u h g =
-    ran_overflows k v w (sum_work Stripping l t u) l (plus t u) (rests_ran k v w l t u a b rest keeps h g sum) (unfit_anyway k v.letters l t u)
-
 pub shifts_put_back : (k : KindName) (v w : View) (a b rest sum : PlainEdge) (c : ℤ) → Keeps v w → c ≡ shift_of k a.root +ℤ shift_of k b.root →
     sum ≡ shifted k c rest → IsStripped k v w (unshifted k a) (unshifted k b) (Ok rest) → IsStripped k v w a b (Ok sum)
 shifts_put_back k v w a b rest sum c keeps shift is stripped l t u h g =

@@ -1,5 +1,5 @@
 -- The sums of two parts, one after the other, and their join.
-use Rattle.std.proofs.Common.{◌≡◌, sym, ◌∙◌, ap, subst, ℕ, ◌+◌, ◌-◌, ◌*◌, ◌<◌, List, length, min, arith}
+use Rattle.std.proofs.Common.{◌≡◌, sym, ◌∙◌, subst, ℕ, ◌+◌, ◌<◌, List, length, arith}
 use Rattle.std.specs.Prelude.{Result, Ok, Err}
 use Rattle.std.specs.Result.{IsErrAnd}
 use Rattle.word_base.specs.declared.decomp.Decomp.{Decomp}
@@ -9,23 +9,20 @@ use Rattle.tables.specs.Pieces.{Piece, join_work}
 use Rattle.kind_laws.specs.Plain.{PlainEdge, answered}
 use Rattle.diagram.specs.Answers.{Answers}
 use Rattle.diagram.specs.Calls.{CanJoin, IsJoin, IsOfBoth, PlainParts, StandForParts, LiesBelow, LieBelow}
+use Rattle.diagram.specs.SumRests.{IsSum}
 use Rattle.diagram.specs.Sums.{sum_work}
-use Rattle.diagram.specs.View.{View, letter_at, StandsAt, top_of, Keeps}
+use Rattle.diagram.specs.View.{View, letter_at, StandsAt, Keeps}
 use Rattle.diagram.specs.declared.limit.Limit.{Limit}
 use Rattle.diagram.specs.declared.walk.Walk.{Walk}
 use Rattle.diagram.proofs.BothLaws.{lies_below}
 use Rattle.diagram.proofs.CallLaws.{Ran, ran_nothing, ran_then, answers_then, refuses_then}
 use Rattle.diagram.proofs.JoinCauses.{refused}
-use Rattle.diagram.proofs.LevelLaws.{stays, same_top, stands_somewhere}
+use Rattle.diagram.proofs.LevelLaws.{stays, stands_somewhere}
 use Rattle.diagram.proofs.SumLaws.{SumCovers, sum_covers}
 
 pub refused_both : {T : Type 0} (k : KindName) (op : Table → Table → Table) (work : ℕ → Table → Table → List Piece) (v w : View) (a b : PlainEdge) (f : T → PlainEdge)
     (result : Result T Limit) (e : Limit) → IsErrAnd result (λ y. y ≡ e) → IsOfBoth op work k v w a b (Err e) → IsOfBoth op work k v w a b (answered f result)
 refused_both k op work v w a b f result e is both l t u h g = refused k v w (work l t u) l (op t u) f result e is (both l t u h g)
-
--- the sum of two edges, from one view to another
-abbrev IsSum : Walk → KindName → View → View → PlainEdge × PlainEdge → Result PlainEdge Limit → Type 0
-IsSum walk k v w both result = IsOfBoth plus (sum_work walk) k v w both.0 both.1 result
 
 -- what the two sums cover, of tables whose parts the operands stand for
 covers_of : (walk : Walk) (k : KindName) (v : View) (l : ℕ) (t u : Table) (parts : PlainParts) → LieBelow k v l parts → StandForParts k v l t u parts → SumCovers walk k v l t u
@@ -111,15 +108,3 @@ sums_can_join walk k v w x l parts low high below keeps sum later sums =
       low_below = first.below;
       high_below = second.below;
     }
-
--- the upper node of the high parts lies deeper, also after the low parts' call
-pub falls_to_high : (k : KindName) (v w : View) (l : ℕ) (parts : PlainParts) → LieBelow k v l parts → Keeps v w →
-    7 * (length w.letters - min (top_of w parts.high.0.node) (top_of w parts.high.1.node)) + 6 < 7 * (length v.letters - l)
-falls_to_high k v w l parts below keeps =
-    let within = below.within in
-    let first = same_top k v w parts.high.0 keeps below.first_high.good in
-    let second = same_top k v w parts.high.1 keeps below.second_high.good in
-    let a = below.first_high.below in
-    let b = below.second_high.below in
-    let letters : length w.letters ≡ length v.letters = ap length keeps.letters in
-    omega arith

@@ -1,10 +1,12 @@
 -- Which nodes a walk has marked. Private functions and proofs alone use this.
-use Rattle.std.specs.Prelude.{◌≡◌, ℕ, ◌+◌, ◌<◌, ◌≤◌, List, Bool, true, Some, None, length}
+use Rattle.std.specs.Prelude.{◌≡◌, ℕ, ◌+◌, ◌<◌, ◌≤◌, List, Bool, true, Some, None, ◌⊎◌, length}
 use Rattle.word_base.specs.declared.kind_name.KindName.{KindName}
 use Rattle.marks.specs.Marked.{is_marked, marked_count}
 use Rattle.tables.specs.Tree.{Shape, leaf, node}
 use Rattle.tables.specs.Canonical.{IsNodeOf, has, add_nodes}
+use Rattle.kind_laws.specs.Body.{body_of, FitsBody}
 use Rattle.kind_laws.specs.Graph.{Lookup, HasShape}
+use Rattle.kind_laws.specs.declared.fields.Fields.{Fields}
 
 -- each node's level is at least this one, and above those of the nodes below it
 abbrev pub Descends : ℕ → Shape → Type 0
@@ -22,6 +24,14 @@ pub record IsNumbered (find : Lookup) (cells : ℕ) : Type 0 where
   pub no_zero : find 0 ≡ None
   pub distinct : (i j : ℕ) (body : List ℕ) → find i ≡ Some body → find j ≡ Some body → i ≡ j
   pub within : (id : ℕ) (body : List ℕ) → find id ≡ Some body → id ≤ cells
+
+-- each known node stands at one of so many levels
+abbrev pub HasLevels : Lookup → ℕ → Type 0
+HasLevels find levels = (id : ℕ) (f : Fields) → FitsBody f → find id ≡ Some (body_of f) → f.level < levels
+
+-- nothing is left to visit at the leaf's id and at one that is marked
+abbrev pub IsDone : List Bool → ℕ → Type 0
+IsDone marks id = (id ≡ 0) ⊎ (is_marked marks id ≡ true)
 
 -- with each node all below it are in the list
 abbrev pub IsClosed : List Shape → Type 0

@@ -3,9 +3,14 @@ pub mod Below
 pub mod Calls
 pub mod Cofactor
 pub mod Contents
+pub mod Frames
 pub mod Inside
+pub mod Multiples
+pub mod ProductFrames
 pub mod Products
 pub mod Remembered
+pub mod SumFrames
+pub mod SumRests
 pub mod Sums
 pub mod Totals
 pub mod View

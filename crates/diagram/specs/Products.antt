@@ -1,15 +1,11 @@
 -- What the steps of a product answer.
-use Rattle.std.specs.Prelude.{◌≡◌, ℕ, ◌+◌, ℤ, pos, negsuc, List, drop, Result, refl}
+use Rattle.std.specs.Prelude.{◌≡◌, ℕ, ℤ, pos, negsuc, List, drop, refl}
 use Rattle.word_base.specs.declared.decomp.Decomp.{Decomp}
 use Rattle.word_base.specs.declared.decomp.Decomp.TheVariants.{P, N}
 use Rattle.word_base.specs.declared.kind_name.KindName.{KindName}
 use Rattle.tables.specs.Table.{Table, entry, halves, plus, times, part0, part1, merged}
 use Rattle.tables.specs.Pieces.{Piece, mul_work}
 use Rattle.kind_laws.specs.Plain.{PlainEdge, constant_edge}
-use Rattle.diagram.specs.declared.limit.Limit.{Limit}
-use Rattle.diagram.specs.Answers.{Answers}
-use Rattle.diagram.specs.Calls.{PlainParts, StandForParts}
-use Rattle.diagram.specs.View.{View, letter_at}
 
 -- the work of a product at a level, by the letters from there on
 abbrev pub product_work : List Decomp → ℕ → Table → Table → List Piece
@@ -22,11 +18,6 @@ mixed_products d t u = plus (times (part0 d t) (part1 d u)) (times (part1 d t) (
 -- the high part of a product at Davio: A0*B1 + A1*B0 + A1*B1
 abbrev pub high_products : Decomp → Table → Table → Table
 high_products d t u = plus (mixed_products d t u) (times (part1 d t) (part1 d u))
-
--- a table below the level, made of the parts of two edges within the work of their product
-abbrev pub IsBelowParts : (Decomp → Table → Table → Table) → KindName → View → View → ℕ → PlainParts → Result PlainEdge Limit → Type 0
-IsBelowParts op k old new level parts result = (t u : Table) → StandForParts k old level t u parts →
-    Answers k old new (product_work old.letters level t u) (level + 1) (op (letter_at old.letters level) t u) result
 
 -- two edges of which none is the constant 0
 pub record AreSome (k : KindName) (a b : PlainEdge) : Type 0 where

@@ -5,12 +5,12 @@ ghost use Rattle.diagram.specs.Remembered.{IsResult};
 ghost use Rattle.diagram.specs.View.{IsEdge};
 ghost use Rattle.diagram.specs.declared.operation.Operation.TheVariants as operation;
 
-use crate::builder::Builder;
+use crate::manager::Manager;
 use kind_laws::{Edge, Kind};
 use record_store::Store;
 use word_base::Weight;
 
-impl<K: Kind, S: Store> Builder<K, S> {
+impl<K: Kind, S: Store> Manager<K, S> {
     /// The sum, where an operand is 0.
     pub(crate) fn sum_at_once(&self, a: Edge<K>, b: Edge<K>) -> Option<Edge<K>>
         requires a_good { IsEdge K.NAME self.now (plain K.extra_of a) }

@@ -1,51 +1,58 @@
-ghost use Rattle.std.specs.Prelude.{◌≡◌, ◌≢◌, ℕ, ◌<◌, ◌≤◌, ◌↔◌, Some, None, length, drop, true, IfErr, IfOk, IfSome, IsTrue};
-ghost use Rattle.tables.specs.Table.{Table, constant_table};
+ghost use Rattle.std.specs.Prelude.{◌≡◌, ℕ, ◌<◌, ◌≤◌, ◌↔◌, Some, None, length, drop, true, IfErr, IfOk, IsTrue};
+ghost use Rattle.tables.specs.Table.{Table, constant_table, plus, times};
 ghost use Rattle.tables.specs.Laws.{are_allowed};
-ghost use Rattle.kind_laws.specs.Kind.{IsNodeBody};
+ghost use Rattle.tables.specs.Pieces.{add_work};
 ghost use Rattle.kind_laws.specs.Plain.{plain, constant_edge, answered};
-ghost use Rattle.record_store.specs.Interns.{Interns};
 ghost use Rattle.record_store.specs.StoreView.{find_in};
-ghost use Rattle.diagram.specs.Calls.{CanPart, ArePartsOf, CanJoin, IsJoin, IsVariable, variable_low, variable_high, KeepsGood};
-ghost use Rattle.diagram.specs.Remembered.{IsFound, IsKept};
+ghost use Rattle.diagram.specs.Calls.{CanPart, ArePartsOf, CanJoin, IsJoin, IsVariable, IsOfBoth};
+ghost use Rattle.diagram.specs.Cofactor.{IsHalf};
+ghost use Rattle.diagram.specs.Products.{product_work};
+ghost use Rattle.diagram.specs.Totals.{IsContent, IsCount};
 ghost use Rattle.diagram.specs.View.{View, letter_at, StandsAt, IsEdge, top_of, Keeps, IsGood};
 
+use crate::cofactor::half;
 use crate::limit::Limit;
-use crate::split::parts_by;
-use kind_laws::{Edge, Joined, Kind, level_of};
-use marks::Marks;
-use record_store::{Store, StoreFull};
-use result_cache::{HashedKey, MAX_LOG, ResultCache};
+use crate::manager::Manager;
+use crate::multiple_walk::MultipleFrame;
+use crate::node_walk::NodeFrame;
+use crate::product_walk::{ProductFrame, product_of};
+use crate::sum_walk::{SumFrame, sum_of};
+use kind_laws::{Edge, Kind};
+use record_store::Store;
+use result_cache::MAX_LOG;
 use std::alloc::Global;
-use std::marker::{Model, PhantomData};
+use std::marker::Model;
 use word_base::{Decomp, Levels, Overflow, Weight};
 
 /// A store of nodes, the levels that they stand at, and results of operations that are remembered.
 #[derive(Drop)]
 pub struct Builder<K: Kind, S: Store> {
-    pub(crate) store: S,
-    levels: Levels,
-    cache: ResultCache,
-    /// The nodes that a walk has met.
-    pub(crate) marks: Marks,
-    kind: PhantomData<K>,
+    pub(crate) manager: Manager<K, S>,
+    /// The multiples, the sums and the products that wait for those of parts, one of each at a level.
+    pub(crate) multiples: Vec<MultipleFrame<K>>,
+    pub(crate) sums: Vec<SumFrame<K>>,
+    products: Vec<ProductFrame<K>>,
+    /// The nodes whose children are walked, one at a level.
+    nodes: Vec<NodeFrame>,
 }
 
 impl<K: Kind, S: Store> Model for Builder<K, S> {
-    ghost use Rattle.diagram.specs.Inside.{IsSound};
+    ghost use Rattle.std.specs.Prelude.{◌≤◌, length, vec_capacity};
     ghost use Rattle.diagram.specs.View.{View, view_code};
 
     ghost Value = { View };
 
     ghost coded = { view_code };
 
-    ghost view = { λ b. record { store = S.view b.store; letters = b.levels } };
+    ghost view = { λ b. b.manager };
 
-    ghost invariant = { λ b. IsSound K.NAME (record { store = S.view b.store; letters = b.levels }) b.cache b.marks };
+    ghost invariant = { λ b. (length b.manager.letters ≤ vec_capacity b.multiples) × (length b.manager.letters ≤ vec_capacity b.sums) ×
+        (length b.manager.letters ≤ vec_capacity b.products) × (length b.manager.letters ≤ vec_capacity b.nodes) };
 }
 
 impl<K: Kind, S: Store> Builder<K, S> {
     /// A builder over a store that knows no node, with levels whose letters the kind allows. It takes all its memory here: marks for so
-    /// many nodes, and room for `2^cache_log` results. Where that is wanting it hands both values back.
+    /// many nodes, room for `2^cache_log` results, and the frames of pending work. Where that is wanting it hands both values back.
     pub fn create(
         alloc: Global,
         store: S,
@@ -60,26 +67,34 @@ impl<K: Kind, S: Store> Builder<K, S> {
         ensures made { IfOk result (λ b. b ≡ record { store = S.view store; letters = levels }) }
         ensures handed_back { IfErr result (λ both. both ≡ (store, levels)) }
     {
-        let Ok(marks) = Marks::create(alloc, cells) else {
+        let count = levels.len() as usize;
+        let Ok(multiples) = Vec::with_capacity(alloc, count) else {
             return Err((store, levels));
         };
-        match ResultCache::create(alloc, cache_log) {
-            Ok(cache) => Ok(Builder {
-                store,
-                levels,
-                cache,
-                marks,
-                kind: PhantomData,
-            }),
-            Err(_) => Err((store, levels)),
-        }
+        let Ok(sums) = Vec::with_capacity(alloc, count) else {
+            return Err((store, levels));
+        };
+        let Ok(products) = Vec::with_capacity(alloc, count) else {
+            return Err((store, levels));
+        };
+        let Ok(nodes) = Vec::with_capacity(alloc, count) else {
+            return Err((store, levels));
+        };
+        let manager = Manager::create(alloc, store, levels, cells, cache_log)?;
+        Ok(Builder {
+            manager,
+            multiples,
+            sums,
+            products,
+            nodes,
+        })
     }
 
     /// The store.
     pub fn store(&self) -> &S
         ensures { S.view result.now ≡ self.now.store }
     {
-        &self.store
+        self.manager.store()
     }
 
     /// The number of levels.
@@ -87,7 +102,7 @@ impl<K: Kind, S: Store> Builder<K, S> {
         ensures count { result ≡ length self.now.letters }
         ensures allowed { are_allowed K.NAME self.now.letters ≡ true }
     {
-        self.levels.len()
+        self.manager.levels()
     }
 
     /// The letter of a level.
@@ -96,8 +111,7 @@ impl<K: Kind, S: Store> Builder<K, S> {
         ensures letter { result ≡ letter_at self.now.letters level }
         ensures good { IsGood K.NAME self.now }
     {
-        let _store = &self.store;
-        self.levels.at(level)
+        self.manager.letter(level)
     }
 
     /// The edge of a constant.
@@ -106,19 +120,7 @@ impl<K: Kind, S: Store> Builder<K, S> {
         ensures table { (l : ℕ) → l ≤ length self.now.letters →
             StandsAt K.NAME self.now l (constant_table (length (drop l self.now.letters)) value) (plain K.extra_of result) }
     {
-        let _store = &self.store;
-        K::constant(value)
-    }
-
-    /// The body of the node that an edge leads to.
-    pub(crate) fn body_of(&mut self, edge: Edge<K>) -> [u64; 8]
-        requires good { IsEdge K.NAME self.old (plain K.extra_of edge) }
-        requires no_leaf { edge.node ≢ 0 }
-        ensures known { find_in self.old.store edge.node ≡ Some result }
-        ensures body { IsNodeBody K.NAME result }
-        ensures unchanged { self.new ≡ self.old }
-    {
-        self.store.fields(edge.node)
+        self.manager.constant(value)
     }
 
     /// The level of an edge's node, and the number of levels for a constant.
@@ -127,10 +129,7 @@ impl<K: Kind, S: Store> Builder<K, S> {
         ensures level { result ≡ top_of self.old edge.node }
         ensures unchanged { self.new ≡ self.old }
     {
-        if edge.node == 0 {
-            return self.levels();
-        }
-        level_of(&self.body_of(edge))
+        self.manager.top(edge)
     }
 
     /// The low and the high part of an edge at a level.
@@ -140,37 +139,7 @@ impl<K: Kind, S: Store> Builder<K, S> {
             (answered (λ p. (plain K.extra_of p.0, plain K.extra_of p.1)) result) }
         ensures unchanged { self.new ≡ self.old }
     {
-        let letter = self.letter(level);
-        let node = self.node_of(edge);
-        parts_by(edge, &node, level, letter)
-    }
-
-    /// The id of a body of which the store stays good.
-    fn intern(&mut self, body: &[u64; 8]) -> Result<u32, StoreFull>
-        requires { KeepsGood K.NAME self.old body.now }
-        ensures interns { Interns self.old.store self.new.store body.now result }
-        ensures letters { self.new.letters ≡ self.old.letters }
-    {
-        self.store.intern(body)
-    }
-
-    /// What is remembered under a key.
-    pub(crate) fn look_up(&self, key: &HashedKey) -> Option<Edge<K>>
-        ensures { IfSome result (λ r. IsFound K.NAME self.now key.now (plain K.extra_of r)) }
-    {
-        let _store = &self.store;
-        match self.cache.look(key) {
-            Some(words) => Some(K::unpack(words)),
-            None => None,
-        }
-    }
-
-    /// Remembers the result of the operation whose key it is.
-    pub(crate) fn remember(&mut self, key: &HashedKey, answer: Edge<K>)
-        requires { IsKept K.NAME self.old key.now (plain K.extra_of answer) }
-        ensures { self.new ≡ self.old }
-    {
-        self.cache.keep(key, K::pack(answer));
+        self.manager.parts(edge, level)
     }
 
     /// The edge whose parts at a level are the two, which lie below it.
@@ -180,23 +149,7 @@ impl<K: Kind, S: Store> Builder<K, S> {
         ensures join { IsJoin K.NAME self.old self.new level (plain K.extra_of low) (plain K.extra_of high)
             (answered (plain K.extra_of) result) }
     {
-        let letter = self.letter(level);
-        match K::join(level, letter, low, high)? {
-            Joined::Skip(edge) => Ok(edge),
-            Joined::Node {
-                weight,
-                extra,
-                body,
-            } => {
-                let node = self.intern(&body)?;
-                Ok(Edge {
-                    weight,
-                    extra,
-                    node,
-                    kind: PhantomData,
-                })
-            }
-        }
+        self.manager.join(level, low, high)
     }
 
     /// The edge of a level's variable.
@@ -205,10 +158,7 @@ impl<K: Kind, S: Store> Builder<K, S> {
         ensures keeps { Keeps self.old self.new }
         ensures table { IsVariable K.NAME self.old self.new level (answered (plain K.extra_of) result) }
     {
-        let (low, high) = variable_parts(self.letter(level));
-        let low = self.constant(low);
-        let high = self.constant(high);
-        self.join(level, low, high)
+        self.manager.var(level)
     }
 
     /// Whether two edges stand for one table. It compares the edges alone.
@@ -216,18 +166,56 @@ impl<K: Kind, S: Store> Builder<K, S> {
         ensures { (l : ℕ) (t u : Table) → StandsAt K.NAME self.now l t (plain K.extra_of a) →
             StandsAt K.NAME self.now l u (plain K.extra_of b) → IsTrue result ↔ (t ≡ u) }
     {
-        let _store = &self.store;
-        a == b
+        self.manager.same(a, b)
     }
-}
 
-/// The parts of a variable at its level.
-fn variable_parts(letter: Decomp) -> (Weight, Weight)
-    ensures low { result.0 ≡ variable_low letter }
-    ensures high { result.1 ≡ variable_high letter }
-{
-    match letter {
-        Decomp::S | Decomp::P => (Weight::ZERO, Weight::ONE),
-        Decomp::N => (Weight::ONE, Weight::ONE.neg()),
+    /// The sum, entry by entry.
+    pub fn add(&mut self, a: Edge<K>, b: Edge<K>) -> Result<Edge<K>, Limit>
+        requires a_good { IsEdge K.NAME self.old (plain K.extra_of a) }
+        requires b_good { IsEdge K.NAME self.old (plain K.extra_of b) }
+        ensures keeps { Keeps self.old self.new }
+        ensures sum { IsOfBoth plus add_work K.NAME self.old self.new (plain K.extra_of a) (plain K.extra_of b)
+            (answered (plain K.extra_of) result) }
+    {
+        sum_of(&mut self.manager, &mut self.sums, a, b)
+    }
+
+    /// The product, entry by entry.
+    pub fn mul(&mut self, a: Edge<K>, b: Edge<K>) -> Result<Edge<K>, Limit>
+        requires a_good { IsEdge K.NAME self.old (plain K.extra_of a) }
+        requires b_good { IsEdge K.NAME self.old (plain K.extra_of b) }
+        ensures keeps { Keeps self.old self.new }
+        ensures product { IsOfBoth times (product_work self.old.letters) K.NAME self.old self.new
+            (plain K.extra_of a) (plain K.extra_of b) (answered (plain K.extra_of) result) }
+    {
+        product_of(&mut self.manager, &mut self.sums, &mut self.products, a, b)
+    }
+
+    /// The half of an edge's table where a level's variable is the bit.
+    pub fn cofactor(&mut self, edge: Edge<K>, level: u16, bit: bool) -> Result<Edge<K>, Limit>
+        requires { CanPart K.NAME self.old level (plain K.extra_of edge) }
+        ensures keeps { Keeps self.old self.new }
+        ensures half { IsHalf K.NAME self.old self.new level bit (plain K.extra_of edge)
+            (answered (plain K.extra_of) result) }
+    {
+        half(&mut self.manager, &mut self.sums, edge, level, bit)
+    }
+
+    /// The greatest common divisor of the entries of an edge's table, 0 where all are 0.
+    pub fn content(&mut self, edge: Edge<K>) -> Weight
+        requires { IsEdge K.NAME self.old (plain K.extra_of edge) }
+        ensures content { IsContent K.NAME self.old (plain K.extra_of edge) result }
+        ensures unchanged { self.new ≡ self.old }
+    {
+        self.manager.content(&mut self.nodes, edge)
+    }
+
+    /// The number of different nodes below an edge, the leaf not counted.
+    pub fn count(&mut self, edge: Edge<K>) -> u32
+        requires { IsEdge K.NAME self.old (plain K.extra_of edge) }
+        ensures count { IsCount K.NAME self.old (plain K.extra_of edge) result }
+        ensures unchanged { self.new ≡ self.old }
+    {
+        self.manager.count(&mut self.nodes, edge)
     }
 }

@@ -2,21 +2,23 @@
 #![tactic(auto)]
 
 mod at_once;
-mod below;
 mod builder;
 mod cofactor;
 mod content;
 mod count;
 mod difference;
 mod limit;
+mod manager;
 mod multiple;
+mod multiple_walk;
+mod node_walk;
 mod operation;
 mod parts;
-mod product;
+mod product_walk;
 mod split;
-mod sum;
-#[cfg(test)]
-mod tests;
+mod step;
+mod sum_rests;
+mod sum_walk;
 mod walk;
 
 pub use builder::Builder;

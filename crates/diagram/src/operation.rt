@@ -30,14 +30,14 @@ impl Operation {
         self.ordered(a, b).hashed()
     }
 
-    /// The words of the key, those of the lesser edge first.
+    /// The words of the key: first those of the edge whose node has the lesser id, and at one node the lesser words.
     fn ordered<K: Kind>(self, a: Edge<K>, b: Edge<K>) -> CacheKey
         ensures { IsKeyOf self K.NAME (plain K.extra_of a) (plain K.extra_of b) result }
     {
         let op = self.number();
         let first = K::pack(a);
         let second = K::pack(b);
-        if second < first {
+        if b.node < a.node || (b.node == a.node && second < first) {
             CacheKey {
                 op,
                 first: second,

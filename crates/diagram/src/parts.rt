@@ -2,8 +2,8 @@ ghost use Rattle.std.specs.Prelude.{◌≡◌, ◌↔◌, IsTrue};
 ghost use Rattle.kind_laws.specs.Plain.{plain, answered};
 ghost use Rattle.diagram.specs.Calls.{IsConstantOf};
 
-use crate::builder::Builder;
 use crate::limit::Limit;
+use crate::manager::Manager;
 use kind_laws::{Edge, Kind};
 use record_store::Store;
 use word_base::{Overflow, Weight};
@@ -15,7 +15,7 @@ pub struct Parts<K: Kind, X = <K as Kind>::Extra> {
     pub high: (Edge<K, X>, Edge<K, X>),
 }
 
-impl<K: Kind, S: Store> Builder<K, S> {
+impl<K: Kind, S: Store> Manager<K, S> {
     /// The edge of a constant, where the sum or product that makes it is a weight.
     pub(crate) fn constant_of(&self, value: Result<Weight, Overflow>) -> Result<Edge<K>, Limit>
         ensures { IsConstantOf K.NAME value (answered (plain K.extra_of) result) }

@@ -5,7 +5,7 @@ ghost use Rattle.kind_laws.specs.Plain.{plain, answered};
 ghost use Rattle.diagram.specs.Calls.{plain_split, skipped_high, IsNodeOf, ArePartsBy, SplitsOne, Splits};
 ghost use Rattle.diagram.specs.View.{View, IsEdge};
 
-use crate::builder::Builder;
+use crate::manager::Manager;
 use crate::parts::Parts;
 use kind_laws::{Edge, Kind, level_of};
 use record_store::Store;
@@ -25,7 +25,7 @@ pub(crate) struct Node {
     body: [u64; 8],
 }
 
-impl<K: Kind, S: Store> Builder<K, S> {
+impl<K: Kind, S: Store> Manager<K, S> {
     /// The parts of two edges at the level of the upper node. Each body is read once.
     pub(crate) fn split(&mut self, a: Edge<K>, b: Edge<K>) -> Result<Split<K>, Overflow>
         requires a_good { IsEdge K.NAME self.old (plain K.extra_of a) }

@@ -1,6 +1,4 @@
-use Rattle.diagram.proofs.PartLaws.{level_read}
 use Rattle.diagram.proofs.builder.Builder.top.Goals as goal
 
-pub returns-clause-level : goal.returns-clause-level
-returns-clause-level g c =
-    level_read g.K.Kind.NAME c.args.self.now c.args.edge.node c.level_of.result c.body_of.result c.body_of.ensures.known c.body_of.ensures.body c.level_of.ensures
+pub top-requires-after_bounds : goal.top-requires-after_bounds
+top-requires-after_bounds g c κs within = rw c.self.view_is c.requires

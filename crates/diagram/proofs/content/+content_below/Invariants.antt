@@ -1,7 +1,0 @@
-use Rattle.record_store.specs.StoreView.{find_in}
-use Rattle.diagram.proofs.BelowLaws.{levels_left}
-use Rattle.diagram.proofs.content.+content_below.Given as goal
-
--- how many levels are left at the node
-abbrev pub decreases-content_below : goal.decreases-content_below
-decreases-content_below g l = levels_left (find_in (g.S.Store.view l.store.now)) l.id

@@ -1,0 +1,25 @@
+use Rattle.std.proofs.Common.{length, [], vec_capacity}
+use Rattle.record_store.specs.StoreView.{find_in}
+use Rattle.kind_laws.specs.Plain.{plain}
+use Rattle.diagram.proofs.BelowLaws.{sound_has_levels, started, cleared}
+use Rattle.diagram.proofs.GatherLaws.{gathered}
+use Rattle.diagram.proofs.manager.Manager.content.Goals as goal
+
+pub gather_below-requires-clause-start : goal.gather_below-requires-clause-start
+gather_below-requires-clause-start g c κs within =
+    started g.K.Kind.NAME c.args.self.now (record { store = g.S.Store.view c.self.inside.store; letters = c.self.inside.levels }) (plain g.K.Kind.extra_of c.args.edge) c.self.view_is c.requires.good
+
+pub gather_below-requires-clause-met : goal.gather_below-requires-clause-met
+gather_below-requires-clause-met g c κs within =
+    ([], cleared g.K.Kind.NAME (find_in (g.S.Store.view c.self.inside.store)) (length c.self.inside.marks) c.clear.new.self c.clear.ensures)
+
+pub gather_below-requires-clause-room : goal.gather_below-requires-clause-room
+gather_below-requires-clause-room g c κs within =
+    sound_has_levels g.K.Kind.NAME c.args.self.now (record { store = g.S.Store.view c.self.inside.store; letters = c.self.inside.levels }) c.self.inside.cache c.self.inside.marks
+    (vec_capacity c.args.frames.now) c.self.view_is c.self.invariant c.requires.room
+
+pub returns-clause-content : goal.returns-clause-content
+returns-clause-content g c =
+    gathered g.K.Kind.NAME c.args.self.now (record { store = g.S.Store.view c.self.inside.store; letters = c.self.inside.levels }) (plain g.K.Kind.extra_of c.args.edge)
+    (length c.self.inside.marks) c.clear.new.self c.edge_content-content.result c.gather_below.result c.self.view_is c.clear.ensures c.edge_content-content.ensures
+    c.gather_below.ensures.contents

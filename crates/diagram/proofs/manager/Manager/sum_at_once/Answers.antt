@@ -1,0 +1,23 @@
+use Rattle.std.proofs.Common.{refl}
+use Rattle.kind_laws.specs.Plain.{plain}
+use Rattle.diagram.specs.declared.operation.Operation.TheVariants.{Sum}
+use Rattle.diagram.proofs.RememberedLaws.{swapped, sum_with_zero}
+use Rattle.diagram.proofs.manager.Manager.sum_at_once.Goals as goal
+
+pub returns-then-is_constant : goal.returns-then-is_constant
+returns-then-is_constant g c =
+    sum_with_zero g.K.Kind.NAME c.args.self.now (plain g.K.Kind.extra_of c.args.a) (plain g.K.Kind.extra_of c.args.b) (c.if-is_constant.ensures.0 refl)
+
+pub returns-then-is_constant-2 : goal.returns-then-is_constant-2
+returns-then-is_constant-2 g c =
+    let k = g.K.Kind.NAME in
+    let v = c.args.self.now in
+    let a = plain g.K.Kind.extra_of c.args.a in
+    let b = plain g.K.Kind.extra_of c.args.b in
+    swapped Sum k v b a a (sum_with_zero k v b a (c.if-is_constant-2.ensures.0 refl))
+
+pub returns : goal.returns
+returns g c = record {
+  first = λ e. let is = c.if-is_constant.ensures.1 e in absurd (cc);
+  second = λ e. let is = c.if-is_constant-2.ensures.1 e in absurd (cc);
+}

@@ -1,0 +1,231 @@
+use Rattle.std.proofs.Common.{◌≡◌, refl, sym, ◌∙◌, ap, subst, ◌-◌, length, arith}
+use Rattle.std.specs.Prelude.{Ok}
+use Rattle.std.proofs.Math.ListN.{set}
+use Rattle.kind_laws.specs.Plain.{plain}
+use Rattle.diagram.specs.ProductFrames.{ProductCall, IsWaiting, plain_product, GoesOn, products}
+use Rattle.diagram.proofs.ProductSteps.{product_laws}
+use Rattle.diagram.proofs.ProductWalk.{product_refused}
+use Rattle.diagram.proofs.StoreLaws.{keeps_on}
+use Rattle.diagram.proofs.WalkSteps.{way_starts, way_begins, way_begin_refused, way_innermost, way_ends, way_goes_below, way_answers, way_refused, fewer_begins, fewer_below, fewer_answers}
+use Rattle.diagram.proofs.product_walk.product_of.Goals as goal
+
+pub loop-step-init : goal.loop-step-init
+loop-step-init g c = record {
+  way = way_starts (products g.K.Kind.NAME g.K.Kind.extra_of) c.args.manager.now c.clear.new.self.items (c.args.a, c.args.b) c.clear.ensures.items (c.requires.a_good, c.requires.b_good);
+  sums_room = refl;
+  room = c.clear.ensures.capacity;
+}
+
+pub begin-requires-clause-room : goal.begin-requires-clause-room
+begin-requires-clause-room g c κs within =
+    let way = c.loop-step.invariant.way in
+    omega (arith, ap length way.keeps.letters, c.loop-step.invariant.room, c.requires.room)
+
+pub returns-in_err-step-in-Below-clause-product : goal.returns-in_err-step-in-Below-clause-product
+returns-in_err-step-in-Below-clause-product g c =
+    let k = g.K.Kind.NAME in
+    let of = g.K.Kind.extra_of in
+    let walking = products k of in
+    let laws = product_laws k of in
+    let first : ProductCall = record { view = c.args.manager.now; operands = (plain of c.args.a, plain of c.args.b) } in
+    let v = c.loop-step.manager in
+    let frames = c.loop-step.frames.items in
+    let step = c.loop-step.step in
+    let way = c.loop-step.invariant.way in
+    let parts = c.in-Below.pair in
+    let e = c.in_err-step-in-Below.field-0.0 in
+    product_refused k c.args.manager.now c.begin.new.manager (plain of c.args.a) (plain of c.args.b) (plain of) c.from_residual.result e c.from_residual.ensures.1
+    (way_begin_refused walking laws first v c.begin.new.manager frames step parts e c.in-Below.is c.in_err-step-in-Below.ensures.unchanged way
+    c.in_err-step-in-Below.ensures.begins)
+
+pub loop-step-smaller-in-Below : goal.loop-step-smaller-in-Below
+loop-step-smaller-in-Below g c =
+    let k = g.K.Kind.NAME in
+    let of = g.K.Kind.extra_of in
+    let walking = products k of in
+    let laws = product_laws k of in
+    let first : ProductCall = record { view = c.args.manager.now; operands = (plain of c.args.a, plain of c.args.b) } in
+    let v = c.loop-step.manager in
+    let frames = c.loop-step.frames.items in
+    let step = c.loop-step.step in
+    let way = c.loop-step.invariant.way in
+    let parts = c.in-Below.pair in
+    fewer_begins walking laws v c.begin.new.manager frames c.begin.new.frames.items step parts c.in_ok-step-in-Below.step c.in-Below.is
+    c.in_ok-step-in-Below.ensures.unchanged c.in_ok-step-in-Below.ensures.begins
+
+pub loop-step-preserved-in-Below : goal.loop-step-preserved-in-Below
+loop-step-preserved-in-Below g c =
+    let k = g.K.Kind.NAME in
+    let of = g.K.Kind.extra_of in
+    let walking = products k of in
+    let laws = product_laws k of in
+    let first : ProductCall = record { view = c.args.manager.now; operands = (plain of c.args.a, plain of c.args.b) } in
+    let v = c.loop-step.manager in
+    let frames = c.loop-step.frames.items in
+    let step = c.loop-step.step in
+    let way = c.loop-step.invariant.way in
+    let parts = c.in-Below.pair in
+    record {
+      way = way_begins walking laws first v c.begin.new.manager frames c.begin.new.frames.items step parts c.in_ok-step-in-Below.step c.in-Below.is
+          c.in_ok-step-in-Below.ensures.unchanged way c.in_ok-step-in-Below.ensures.begins;
+      sums_room = c.loop-step.invariant.sums_room;
+      room = c.in_ok-step-in-Below.ensures.room ∙ c.loop-step.invariant.room;
+    }
+
+pub returns-then-waiting-eq0-clause-product : goal.returns-then-waiting-eq0-clause-product
+returns-then-waiting-eq0-clause-product g c =
+    let k = g.K.Kind.NAME in
+    let of = g.K.Kind.extra_of in
+    let walking = products k of in
+    let first : ProductCall = record { view = c.args.manager.now; operands = (plain of c.args.a, plain of c.args.b) } in
+    let v = c.loop-step.manager in
+    let frames = c.loop-step.frames.items in
+    let step = c.loop-step.step in
+    let way = c.loop-step.invariant.way in
+    let product = c.in-Answer.product in
+    let waiting = c.len-waiting.result in
+    let count : waiting ≡ length frames = c.len-waiting.ensures ∙ c.loop-step.frames.ok.0 in
+    way_ends walking first v frames step product c.in-Answer.is (sym count ∙ c.if-waiting-eq0.true) way
+
+pub resume-requires-clause-waiting : goal.resume-requires-clause-waiting
+resume-requires-clause-waiting g c κs within =
+    let k = g.K.Kind.NAME in
+    let of = g.K.Kind.extra_of in
+    let walking = products k of in
+    let first : ProductCall = record { view = c.args.manager.now; operands = (plain of c.args.a, plain of c.args.b) } in
+    let v = c.loop-step.manager in
+    let frames = c.loop-step.frames.items in
+    let step = c.loop-step.step in
+    let way = c.loop-step.invariant.way in
+    let product = c.in-Answer.product in
+    let waiting = c.len-waiting.result in
+    let count : waiting ≡ length frames = c.len-waiting.ensures ∙ c.loop-step.frames.ok.0 in
+    let frame = c.index_mut.result.now in
+    let m = way_innermost walking first v frames step product frame waiting c.in-Answer.is count c.if-waiting-eq0.false c.index_mut.ensures.value way in
+    record { outer = m.outer; inner = m.inner; waits = m.waits; keeps = m.inner_keeps; is_known = m.is_known }
+
+pub returns-in_err-pair-in-Answer-clause-keeps : goal.returns-in_err-pair-in-Answer-clause-keeps
+returns-in_err-pair-in-Answer-clause-keeps g c =
+    keeps_on c.args.manager.now c.loop-step.manager c.resume.new.manager c.loop-step.invariant.way.keeps c.in_err-pair-in-Answer.ensures.keeps
+
+pub returns-in_err-pair-in-Answer-clause-product : goal.returns-in_err-pair-in-Answer-clause-product
+returns-in_err-pair-in-Answer-clause-product g c =
+    let k = g.K.Kind.NAME in
+    let of = g.K.Kind.extra_of in
+    let walking = products k of in
+    let laws = product_laws k of in
+    let first : ProductCall = record { view = c.args.manager.now; operands = (plain of c.args.a, plain of c.args.b) } in
+    let v = c.loop-step.manager in
+    let frames = c.loop-step.frames.items in
+    let step = c.loop-step.step in
+    let way = c.loop-step.invariant.way in
+    let product = c.in-Answer.product in
+    let waiting = c.len-waiting.result in
+    let count : waiting ≡ length frames = c.len-waiting.ensures ∙ c.loop-step.frames.ok.0 in
+    let frame = c.index_mut.result.now in
+    let m = way_innermost walking first v frames step product frame waiting c.in-Answer.is count c.if-waiting-eq0.false c.index_mut.ensures.value way in
+    let at : IsWaiting k v (plain_product of frame) (plain of product) =
+    record { outer = m.outer; inner = m.inner; waits = m.waits; keeps = m.inner_keeps; is_known = m.is_known } in
+    let w = c.resume.new.manager in
+    let e = c.in_err-pair-in-Answer.field-0.0 in
+    product_refused k c.args.manager.now w (plain of c.args.a) (plain of c.args.b) (plain of) c.from_residual-in_err-pair-in-Answer.result e c.from_residual-in_err-pair-in-Answer.ensures.1
+    (way_refused walking laws first v w frames product frame e m c.in_err-pair-in-Answer.ensures.keeps (c.in_err-pair-in-Answer.ensures.resumes at))
+
+pub loop-step-smaller-in-Below-2 : goal.loop-step-smaller-in-Below-2
+loop-step-smaller-in-Below-2 g c =
+    let k = g.K.Kind.NAME in
+    let of = g.K.Kind.extra_of in
+    let walking = products k of in
+    let laws = product_laws k of in
+    let first : ProductCall = record { view = c.args.manager.now; operands = (plain of c.args.a, plain of c.args.b) } in
+    let v = c.loop-step.manager in
+    let frames = c.loop-step.frames.items in
+    let step = c.loop-step.step in
+    let way = c.loop-step.invariant.way in
+    let product = c.in-Answer.product in
+    let waiting = c.len-waiting.result in
+    let count : waiting ≡ length frames = c.len-waiting.ensures ∙ c.loop-step.frames.ok.0 in
+    let frame = c.index_mut.result.now in
+    let m = way_innermost walking first v frames step product frame waiting c.in-Answer.is count c.if-waiting-eq0.false c.index_mut.ensures.value way in
+    let at : IsWaiting k v (plain_product of frame) (plain of product) =
+    record { outer = m.outer; inner = m.inner; waits = m.waits; keeps = m.inner_keeps; is_known = m.is_known } in
+    let w = c.resume.new.manager in
+    let next = c.resume.new.frame in
+    let parts = c.in-Below-2.pair in
+    let goes = subst (λ x. GoesOn k of m.outer w (plain_product of frame) (plain_product of next) (Ok x)) c.in-Below-2.is (c.in_ok-pair-in-Answer.ensures.resumes at) in
+    fewer_below walking laws first v w frames (set frames (waiting - 1) next) step product parts frame next waiting c.in-Answer.is m c.in_ok-pair-in-Answer.ensures.keeps count refl
+    goes.0 goes.1 goes.2
+
+pub loop-step-preserved-in-Below-2 : goal.loop-step-preserved-in-Below-2
+loop-step-preserved-in-Below-2 g c =
+    let k = g.K.Kind.NAME in
+    let of = g.K.Kind.extra_of in
+    let walking = products k of in
+    let laws = product_laws k of in
+    let first : ProductCall = record { view = c.args.manager.now; operands = (plain of c.args.a, plain of c.args.b) } in
+    let v = c.loop-step.manager in
+    let frames = c.loop-step.frames.items in
+    let step = c.loop-step.step in
+    let way = c.loop-step.invariant.way in
+    let product = c.in-Answer.product in
+    let waiting = c.len-waiting.result in
+    let count : waiting ≡ length frames = c.len-waiting.ensures ∙ c.loop-step.frames.ok.0 in
+    let frame = c.index_mut.result.now in
+    let m = way_innermost walking first v frames step product frame waiting c.in-Answer.is count c.if-waiting-eq0.false c.index_mut.ensures.value way in
+    let at : IsWaiting k v (plain_product of frame) (plain of product) =
+    record { outer = m.outer; inner = m.inner; waits = m.waits; keeps = m.inner_keeps; is_known = m.is_known } in
+    let w = c.resume.new.manager in
+    let next = c.resume.new.frame in
+    let parts = c.in-Below-2.pair in
+    let goes = subst (λ x. GoesOn k of m.outer w (plain_product of frame) (plain_product of next) (Ok x)) c.in-Below-2.is (c.in_ok-pair-in-Answer.ensures.resumes at) in
+    record {
+      way = way_goes_below walking laws first v w frames (set frames (waiting - 1) next) product parts frame next waiting m c.in_ok-pair-in-Answer.ensures.keeps count refl goes.0 goes.1;
+      sums_room = c.in_ok-pair-in-Answer.ensures.sums_room ∙ c.loop-step.invariant.sums_room;
+      room = c.loop-step.invariant.room;
+    }
+
+pub loop-step-smaller : goal.loop-step-smaller
+loop-step-smaller g c =
+    let k = g.K.Kind.NAME in
+    let of = g.K.Kind.extra_of in
+    let walking = products k of in
+    let first : ProductCall = record { view = c.args.manager.now; operands = (plain of c.args.a, plain of c.args.b) } in
+    let v = c.loop-step.manager in
+    let frames = c.loop-step.frames.items in
+    let step = c.loop-step.step in
+    let way = c.loop-step.invariant.way in
+    let product = c.in-Answer.product in
+    let waiting = c.len-waiting.result in
+    let count : waiting ≡ length frames = c.len-waiting.ensures ∙ c.loop-step.frames.ok.0 in
+    let frame = c.index_mut.result.now in
+    let m = way_innermost walking first v frames step product frame waiting c.in-Answer.is count c.if-waiting-eq0.false c.index_mut.ensures.value way in
+    fewer_answers walking first v c.resume.new.manager frames c.truncate.new.self.items step product c.in-Answer-2.product frame c.resume.new.frame waiting c.in-Answer.is m
+    c.in_ok-pair-in-Answer.ensures.keeps count c.truncate.ensures.items
+
+pub loop-step-preserved : goal.loop-step-preserved
+loop-step-preserved g c =
+    let k = g.K.Kind.NAME in
+    let of = g.K.Kind.extra_of in
+    let walking = products k of in
+    let laws = product_laws k of in
+    let first : ProductCall = record { view = c.args.manager.now; operands = (plain of c.args.a, plain of c.args.b) } in
+    let v = c.loop-step.manager in
+    let frames = c.loop-step.frames.items in
+    let step = c.loop-step.step in
+    let way = c.loop-step.invariant.way in
+    let product = c.in-Answer.product in
+    let waiting = c.len-waiting.result in
+    let count : waiting ≡ length frames = c.len-waiting.ensures ∙ c.loop-step.frames.ok.0 in
+    let frame = c.index_mut.result.now in
+    let m = way_innermost walking first v frames step product frame waiting c.in-Answer.is count c.if-waiting-eq0.false c.index_mut.ensures.value way in
+    let at : IsWaiting k v (plain_product of frame) (plain of product) =
+    record { outer = m.outer; inner = m.inner; waits = m.waits; keeps = m.inner_keeps; is_known = m.is_known } in
+    let w = c.resume.new.manager in
+    let next = c.resume.new.frame in
+    let answer = subst (λ x. GoesOn k of m.outer w (plain_product of frame) (plain_product of next) (Ok x)) c.in-Answer-2.is (c.in_ok-pair-in-Answer.ensures.resumes at) in
+    record {
+      way = way_answers walking laws first v w frames c.truncate.new.self.items product c.in-Answer-2.product frame next waiting m c.in_ok-pair-in-Answer.ensures.keeps count
+          c.truncate.ensures.items answer;
+      sums_room = c.in_ok-pair-in-Answer.ensures.sums_room ∙ c.loop-step.invariant.sums_room;
+      room = c.truncate.ensures.capacity ∙ c.loop-step.invariant.room;
+    }
