@@ -14,7 +14,7 @@ pub(crate) enum Operation {
 
 impl Operation {
     /// The number of the operation in a key.
-    fn number(self) -> u8
+    fn number(self) -> u64
         ensures { result ≡ number_of self }
     {
         match self {

@@ -1,8 +1,6 @@
 -- The skips of edge-valued diagrams, by ids and by shapes.
-use Rattle.std.proofs.Common.{◌≡◌, ◌∙◌, ap, ℕ, ℤ, pos, ◌-ℤ◌, ◌^◌, true, false, arith}
-use Rattle.std.specs.Prelude.{unsigned_abs}
-use Rattle.word_base.specs.Range.{InRange, in_range}
-use Rattle.std.proofs.lemmas.Bool.{false_from_ne_true, lt-ltb}
+use Rattle.std.proofs.Common.{◌≡◌, ◌∙◌, ap, ℕ, ℤ, pos, ◌-ℤ◌, true, false, arith}
+use Rattle.std.proofs.lemmas.Bool.{false_from_ne_true}
 use Rattle.std.proofs.lemmas.Int.{ints}
 use Rattle.word_base.specs.declared.decomp.Decomp.{Decomp}
 use Rattle.word_base.specs.declared.kind_name.KindName.TheVariants.{Evbdd}
@@ -30,9 +28,6 @@ no_skip d a b i j s r shapes apart = false_from_ne_true _ (λ h.
     let one = same_edges (plain_edge a (pos 0) i) (plain_edge b (pos 0) j) s r shapes (same-same _ _ h) in
     let weight : a ≡ b = ap (λ (e : PlainEdge). e.root.weight) one in
     apart (ap (λ (e : PlainEdge). e.node) one, ap (λ (x : ℤ). b -ℤ x) weight ∙ no_difference b))
-
-pub in_range_if : (z : ℤ) → InRange z → in_range z ≡ true
-in_range_if z h = lt-ltb (unsigned_abs z) (2 ^ 127) h
 
 -- the joined node has the difference as its added weight
 pub node_is : (l : ℕ) (a b c : ℤ) (s r : Shape) → b -ℤ a ≡ c →

@@ -1,3 +1,4 @@
 mod ContentLaws
 pub mod JoinLaws
 pub mod SkipLaws
+pub mod PartLaws

@@ -93,6 +93,8 @@ impl Kind for KStarBmd {
         let high_weight = product(edge.weight, high_weight_of(body))?;
         let added = product(edge.weight, added_of(body))?;
         let high_extra = additive_of_high(letter, edge.extra, added)?;
+        // so that its range is known
+        let _extra = edge.extra.get();
         let low = make_edge(low_weight, edge.extra, low);
         let high = make_edge(high_weight, high_extra, high);
         Ok((low, high))

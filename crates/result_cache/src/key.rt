@@ -8,7 +8,7 @@ use std::marker::Model;
 /// An operation by its number, and the words of its two operands.
 #[derive(Clone, Copy, Debug, PartialEq, Eq)]
 pub struct CacheKey {
-    pub op: u8,
+    pub op: u64,
     pub first: [u64; 5],
     pub second: [u64; 5],
 }
@@ -63,7 +63,7 @@ impl CacheKey {
     fn hash(&self) -> u64
         ensures { result ≡ hash_of (key_words self.now) }
     {
-        let first = mix_all(mix(0, u64::from(self.op)), &self.first);
+        let first = mix_all(mix(0, self.op), &self.first);
         mix_all(first, &self.second)
     }
 }

@@ -3,7 +3,7 @@ use std::process::Abort;
 use std::test::Fail;
 
 /// A key whose operands are two numbers.
-fn key(op: u8, first: u64, second: u64) -> HashedKey {
+fn key(op: u64, first: u64, second: u64) -> HashedKey {
     let key = CacheKey {
         op,
         first: [first, 0, 0, 0, 7],

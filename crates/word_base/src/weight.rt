@@ -5,23 +5,52 @@ ghost use Rattle.word_base.specs.Range.{InRange};
 use std::fmt;
 use std::marker::Model;
 
-/// A number of a diagram: from `-(2^127-1)` to `2^127-1`, so that each one has a negative.
-#[derive(Clone, Copy, Debug, PartialEq, Eq)]
+/// A number of a diagram: from `-(2^127-1)` to `2^127-1`, so that each one has a negative. It stands in two words, so that an edge is copied in few moves.
+#[derive(Clone, Copy)]
 pub struct Weight {
-    value: i128,
+    /// The lower word of its two's complement.
+    low: u64,
+    high: u64,
 }
 
 impl Model for Weight {
     ghost use Rattle.std.specs.Prelude.{ℤ};
-    ghost use Rattle.word_base.specs.Range.{InRange};
+    ghost use Rattle.word_base.specs.Words.{value_of, low_word, high_word, AreWords};
 
     ghost Value = { ℤ };
 
-    ghost view = { λ w. w.value };
+    ghost view = { λ w. value_of w.low w.high };
 
-    ghost invariant = { λ w. InRange w.value };
+    ghost invariant = { λ w. AreWords w.low w.high };
 
-    ghost inverse = { λ z. record { value = z } };
+    ghost inverse = { λ z. record { low = low_word z; high = high_word z } };
+}
+
+impl PartialEq for Weight {
+    ghost use Rattle.std.specs.Ordering.{int_eq};
+    ghost use Rattle.std.specs.Cmp.Rules.{comparing};
+    ghost use Rattle.std.proofs.Common.{rules};
+
+    ghost eq = { int_eq };
+
+    ghost laws = { Prim.search (comparing, rules) };
+
+    fn eq(&self, other: &Weight) -> bool {
+        self.get() == other.get()
+    }
+}
+
+impl Eq for Weight {
+    ghost use Rattle.std.specs.Cmp.Rules.{comparing};
+    ghost use Rattle.std.proofs.Common.{rules};
+
+    ghost laws = { Prim.search (comparing, rules) };
+}
+
+impl fmt::Debug for Weight {
+    fn fmt<W: fmt::Write>(&self, f: &mut fmt::Formatter<W>) -> fmt::Result {
+        f.debug_tuple("Weight").field(&self.get()).finish()
+    }
 }
 
 /// A result is no `Weight`: its magnitude is `2^127` or more.
@@ -42,16 +71,19 @@ impl std::error::Error for Overflow {}
 
 impl Weight {
     /// 0.
-    pub const ZERO: Weight = Weight { value: 0 };
+    pub const ZERO: Weight = Weight { low: 0, high: 0 };
 
     /// 1.
-    pub const ONE: Weight = Weight { value: 1 };
+    pub const ONE: Weight = Weight { low: 1, high: 0 };
 
     /// 2.
-    pub const TWO: Weight = Weight { value: 2 };
+    pub const TWO: Weight = Weight { low: 2, high: 0 };
 
     /// `2^127-1`, the greatest weight; the least is its negative.
-    pub const MAX: Weight = Weight { value: i128::MAX };
+    pub const MAX: Weight = Weight {
+        low: u64::MAX,
+        high: (1 << 63) - 1,
+    };
 
     /// `ZERO`, `ONE`, `TWO` and `MAX`, whose values a contract tells here.
     pub fn constants() -> (Weight, Weight, Weight, Weight)
@@ -71,7 +103,7 @@ impl Weight {
         if value == i128::MIN {
             None
         } else {
-            Some(Weight { value })
+            Some(of_value(value))
         }
     }
 
@@ -80,35 +112,36 @@ impl Weight {
         ensures value { result ≡ self }
         ensures in_range { InRange result }
     {
-        self.value
+        let bits = (u128::from(self.high) << 64) + u128::from(self.low);
+        bits.cast_signed()
     }
 
     /// The exact sum.
     pub fn add(self, other: Weight) -> Result<Weight, Overflow>
         ensures { OkIff result (InRange (self +ℤ other)) (self +ℤ other) }
     {
-        checked(self.value.checked_add(other.value))
+        checked(self.get().checked_add(other.get()))
     }
 
     /// The exact difference.
     pub fn sub(self, other: Weight) -> Result<Weight, Overflow>
         ensures { OkIff result (InRange (self -ℤ other)) (self -ℤ other) }
     {
-        checked(self.value.checked_sub(other.value))
+        checked(self.get().checked_sub(other.get()))
     }
 
     /// The exact product.
     pub fn mul(self, other: Weight) -> Result<Weight, Overflow>
         ensures { OkIff result (InRange (self *ℤ other)) (self *ℤ other) }
     {
-        checked(self.value.checked_mul(other.value))
+        checked(self.get().checked_mul(other.get()))
     }
 
     /// The negative, which each weight has.
     pub fn neg(self) -> Weight
         ensures { result ≡ neg_ℤ self }
     {
-        Weight { value: -self.value }
+        of_value(-self.get())
     }
 }
 
@@ -119,5 +152,17 @@ fn checked(exact: Option<i128>) -> Result<Weight, Overflow>
     match exact {
         Some(value) => Weight::new(value).ok_or(Overflow),
         None => Err(Overflow),
+    }
+}
+
+/// The weight of a number in range.
+fn of_value(value: i128) -> Weight
+    requires { InRange value }
+    ensures { result ≡ value }
+{
+    let bits = value.cast_unsigned();
+    Weight {
+        low: (bits % (1 << 64)) as u64,
+        high: (bits >> 64) as u64,
     }
 }

@@ -1,5 +1,6 @@
 use Rattle.std.proofs.Common.{refl, sym, ◌∙◌, pos, ◌-ℤ◌}
-use Rattle.evbdd.proofs.SkipLaws.{skip_told, no_skip, in_range_if, node_is}
+use Rattle.word_base.proofs.RangeLaws.{in_range_if}
+use Rattle.evbdd.proofs.SkipLaws.{skip_told, no_skip, node_is}
 use Rattle.evbdd.proofs.evbdd.EvbddKind.join.Goals as goal
 
 pub returns-then-is_skip : goal.returns-then-is_skip
