@@ -17,8 +17,6 @@ mod line_error;
 mod reader;
 mod statement;
 mod symbol;
-#[cfg(test)]
-mod tests;
 mod word;
 
 pub use fault::{BenchCause, BenchError, BenchFault};

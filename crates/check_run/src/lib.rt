@@ -13,8 +13,6 @@ mod decide;
 mod load;
 mod status;
 mod stop;
-#[cfg(test)]
-mod tests;
 mod words;
 
 pub use checks::{Method, Verdict};

@@ -5,8 +5,6 @@
 //! Davio it builds the sums of both parts, which are the low halves.
 #![tactic(auto)]
 
-#[cfg(test)]
-mod tests;
 mod walk;
 
 pub use walk::first_difference;

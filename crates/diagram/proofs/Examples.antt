@@ -1,6 +1,6 @@
 -- Worked examples: what an answer says of a store with no node, and with one.
 use Rattle.std.proofs.Common.{◌≡◌, refl, ap, ◌∙◌, sym, ℕ, ◌-◌, zero, suc, List, [], ◌∷◌, true, false, pos, arith, drop, subst, inl}
-use Rattle.std.specs.Prelude.{Err, Some, None, slice_index}
+use Rattle.std.specs.Prelude.{Ok, Err, Some, None, slice_index}
 use Rattle.std.specs.Cmp.{nat_cmp_total}
 use Rattle.std.specs.FinMap.{get-from_entries}
 use Rattle.std.specs.List.{Contains, enumerate_from}
@@ -14,11 +14,11 @@ use Rattle.tables.specs.Pieces.{Piece, pieces, InNodes}
 use Rattle.record_store.specs.Solo.{solo_view}
 use Rattle.record_store.specs.StoreView.{find_in}
 use Rattle.kind_laws.specs.Body.{body_of, FitsBody}
-use Rattle.kind_laws.specs.Plain.{plain_edge}
+use Rattle.kind_laws.specs.Plain.{PlainEdge, plain_edge}
 use Rattle.kind_laws.specs.declared.fields.Fields.{Fields}
 use Rattle.diagram.specs.declared.limit.Limit.TheVariants as limit
 use Rattle.diagram.specs.Answers.{HasNodeShape, SomeUnknown, Answers}
-use Rattle.diagram.specs.Calls.{IsNodeOf, upper}
+use Rattle.diagram.specs.Calls.{ArePartsBy, LeadsTo, SplitsOne, upper}
 use Rattle.diagram.specs.View.{View, top_of}
 
 -- the variable of a single level
@@ -67,8 +67,16 @@ upper-of_both : upper one_node (plain_edge (pos 0) (pos 0) 1) (plain_edge (pos 0
 upper-of_both = let top = top-of_node in omega arith
 
 -- what is read of an edge to the node
-node-read : IsNodeOf Hdd one_node (plain_edge (pos 0) (pos 0) 1) 0 (body_of fields)
+node-read : LeadsTo Hdd one_node (plain_edge (pos 0) (pos 0) 1) 0 (body_of fields)
 node-read = record { level_is = sym top-of_node; known = λ some. found-1; is_body = λ some. (fields, fields-fit, refl, refl) }
+
+-- a constant has itself and 0 as its parts at a level above the leaf's
+leaf-parts : ArePartsBy Hdd P 0 (plain_edge (pos 5) (pos 0) 0) 1 [] (Ok (plain_edge (pos 5) (pos 0) 0, plain_edge (pos 0) (pos 0) 0))
+leaf-parts = record { here = λ same. absurd (omega arith); above = λ _. refl }
+
+-- the node is split at its own level alone
+split-elsewhere : (low high : PlainEdge) → SplitsOne Hdd one_node (plain_edge (pos 0) (pos 0) 1) (Ok (1, low, high)) → ⊥
+split-elsewhere low high h = let clash = h.0 ∙ top-of_node in absurd (omega arith)
 
 -- the id 1 has the variable's node
 one_node-has : HasNodeShape Hdd one_node work 1

@@ -9,7 +9,7 @@ use Rattle.record_store.specs.StoreView.{find_in}
 use Rattle.kind_laws.specs.Body.{Reads}
 use Rattle.kind_laws.specs.Kind.{IsNodeBody, HasParts}
 use Rattle.kind_laws.specs.Plain.{PlainEdge}
-use Rattle.diagram.specs.Calls.{CanPart, ArePartsOf, ArePartsOfBoth, skipped_high, LieBelow, IsNodeOf, ArePartsBy, PlainSplit, Splits, upper}
+use Rattle.diagram.specs.Calls.{CanPart, ArePartsOf, ArePartsOfBoth, skipped_high, LieBelow, LeadsTo, ArePartsBy, PlainSplit, Splits, upper}
 use Rattle.diagram.specs.View.{View, letter_at, IsEdge, top_of}
 use Rattle.diagram.proofs.BothLaws.{HaveNode, can_part_first, can_part_second, parts_lie_below, first_unfit, second_unfit}
 use Rattle.diagram.proofs.EachLaws.{can_part_at}
@@ -18,14 +18,14 @@ use Rattle.diagram.proofs.PartLaws.{leaf_apart, skipped_parts_are, level_read, n
 
 -- ---- one edge
 -- an edge with its node at a level that it can be parted at is no constant's
-some_node : (k : KindName) (v : View) (l : ℕ) (e : PlainEdge) (level : ℕ) (body : List ℕ) → CanPart k v l e → IsNodeOf k v e level body → level ≡ l → e.node ≢ 0
+some_node : (k : KindName) (v : View) (l : ℕ) (e : PlainEdge) (level : ℕ) (body : List ℕ) → CanPart k v l e → LeadsTo k v e level body → level ≡ l → e.node ≢ 0
 some_node k v l e level body can node at = λ leaf. leaf_apart k v l e can leaf (sym at ∙ node.level_is)
 
-pub body_there : (k : KindName) (v : View) (l : ℕ) (e : PlainEdge) (level : ℕ) (body : List ℕ) → CanPart k v l e → IsNodeOf k v e level body → level ≡ l → IsNodeBody k body
+pub body_there : (k : KindName) (v : View) (l : ℕ) (e : PlainEdge) (level : ℕ) (body : List ℕ) → CanPart k v l e → LeadsTo k v e level body → level ≡ l → IsNodeBody k body
 body_there k v l e level body can node at = node.is_body (some_node k v l e level body can node at)
 
 pub parts_by_node : (k : KindName) (v : View) (l : ℕ) (d : Decomp) (e : PlainEdge) (level : ℕ) (body : List ℕ) (result : Result (PlainEdge × PlainEdge) Overflow) → CanPart k v l e →
-    d ≡ letter_at v.letters l → IsNodeOf k v e level body → ArePartsBy k d l e level body result → ArePartsOf k v l e result
+    d ≡ letter_at v.letters l → LeadsTo k v e level body → ArePartsBy k d l e level body result → ArePartsOf k v l e result
 parts_by_node k v l d e level body result can letter node by =
     elim (eqb_tells level l) [
       | inl (_, at) ↦
@@ -49,17 +49,17 @@ node_split k v d e level body result good some letter known is_body reads has =
 -- ---- two edges
 -- two edges of which one leads to a node, their nodes, and the level of the upper one
 pub record AreRead (k : KindName) (v : View) (a b : PlainEdge) (first : ℕ) (first_body : List ℕ) (second : ℕ) (second_body : List ℕ) (level : ℕ) : Type 0 where
-  pub first_node : IsNodeOf k v a first first_body
-  pub second_node : IsNodeOf k v b second second_body
+  pub first_node : LeadsTo k v a first first_body
+  pub second_node : LeadsTo k v b second second_body
   pub level_is : level ≡ upper v a b
   pub can_first : CanPart k v level a
   pub can_second : CanPart k v level b
 
 -- the second was read after the first
 pub are_read : (k : KindName) (v w : View) (a b : PlainEdge) (first : ℕ) (first_body : List ℕ) (second : ℕ) (second_body : List ℕ) (level : ℕ) → HaveNode k v a b → w ≡ v →
-    IsNodeOf k v a first first_body → IsNodeOf k w b second second_body → level ≡ min first second → AreRead k v a b first first_body second second_body level
+    LeadsTo k v a first first_body → LeadsTo k w b second second_body → level ≡ min first second → AreRead k v a b first first_body second second_body level
 are_read k v w a b first first_body second second_body level have same one other least =
-    let two = subst (λ (x : View). IsNodeOf k x b second second_body) same other in
+    let two = subst (λ (x : View). LeadsTo k x b second second_body) same other in
     let is = least ∙ ap (λ (n : ℕ). min n second) one.level_is ∙ ap (min (top_of v a.node)) two.level_is in
     record { first_node = one; second_node = two; level_is = is; can_first = can_part_first k v a b level have is; can_second = can_part_second k v a b level have is }
 

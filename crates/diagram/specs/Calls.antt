@@ -147,7 +147,7 @@ IsOfPart op work k old new level low high result = (t : Table) → StandForPart 
 
 -- ---- each node read once
 -- the level and the body of the node that an edge leads to; the leaf's level is the number of levels, and it has no body
-pub record IsNodeOf (k : KindName) (v : View) (e : PlainEdge) (level : ℕ) (body : List ℕ) : Type 0 where
+pub record LeadsTo (k : KindName) (v : View) (e : PlainEdge) (level : ℕ) (body : List ℕ) : Type 0 where
   pub level_is : level ≡ top_of v e.node
   pub known : e.node ≢ 0 → find_in v.store e.node ≡ Some body
   pub is_body : e.node ≢ 0 → IsNodeBody k body

@@ -2,7 +2,7 @@ ghost use Rattle.std.specs.Prelude.{◌≡◌, ◌≢◌, true};
 ghost use Rattle.word_base.specs.Kind.{is_allowed};
 ghost use Rattle.kind_laws.specs.Kind.{IsNodeBody};
 ghost use Rattle.kind_laws.specs.Plain.{plain, answered};
-ghost use Rattle.diagram.specs.Calls.{plain_split, skipped_high, IsNodeOf, ArePartsBy, SplitsOne, Splits};
+ghost use Rattle.diagram.specs.Calls.{plain_split, skipped_high, LeadsTo, ArePartsBy, SplitsOne, Splits};
 ghost use Rattle.diagram.specs.View.{View, IsEdge};
 
 use crate::manager::Manager;
@@ -67,7 +67,7 @@ impl<K: Kind, S: Store> Manager<K, S> {
     /// The node that an edge leads to.
     pub(crate) fn node_of(&mut self, edge: Edge<K>) -> Node
         requires { IsEdge K.NAME self.old (plain K.extra_of edge) }
-        ensures node { IsNodeOf K.NAME self.old (plain K.extra_of edge) result.level result.body }
+        ensures node { LeadsTo K.NAME self.old (plain K.extra_of edge) result.level result.body }
         ensures unchanged { self.new ≡ self.old }
     {
         if edge.node == 0 {

@@ -1,5 +1,5 @@
 //! A full store, and weights out of range.
-use crate::terms::{NEGATIVE, POSITIVE, SHANNON, Term, X, Y, two_levels};
+use crate::terms::{NEGATIVE, POSITIVE, SHANNON, Term, X, Y, limit_of, two_levels};
 use diagram::{Builder, Limit};
 use evbdd::Evbdd;
 use hdd::Hdd;
@@ -8,34 +8,37 @@ use kind_laws::Kind;
 use record_store::SoloStore;
 use star_bmd::StarBmd;
 use std::process::Abort;
-use std::test::Fail;
-use word_base::{Overflow, Weight};
+use word_base::Weight;
 
-fn check_causes<K: Kind>(rt: &impl Abort, builder: &mut Builder<K, SoloStore>) -> Result<(), Fail> {
+/// The first variable takes the one node, and the second finds none left. Two terms leave the range.
+fn check_causes<K: Kind>(rt: &impl Abort, builder: &mut Builder<K, SoloStore>) {
     let greatest = Term::Constant(Weight::MAX);
-    assert!(rt; matches!(X.edge(rt, builder), Ok(_)));
-    assert!(rt; matches!(Y.edge(rt, builder), Err(Limit::Full)));
-    assert!(rt;
-        matches!(
-            Term::Sum(&greatest, &greatest).edge(rt, builder),
-            Err(Limit::Overflow)
-        )
-    );
+    let sum = Term::Sum(&greatest, &greatest);
     let twice = Term::Multiple(Weight::TWO, &greatest);
-    assert!(rt; matches!(twice.edge(rt, builder), Err(Limit::Overflow)));
-    Ok(())
+    let rows = [
+        (&X, None),
+        (&Y, Some(Limit::Full)),
+        (&sum, Some(Limit::Overflow)),
+        (&twice, Some(Limit::Overflow)),
+    ];
+    for (term, limit) in rows {
+        assert_eq!(rt; limit_of(rt, builder, term), limit);
+    }
 }
 
 #[test]
-fn a_store_of_one_node_is_full(rt: HostRuntime) -> Result<(), Fail> {
-    check_causes(&rt, &mut two_levels::<Hdd>(rt.alloc(), &NEGATIVE, 1, 0)?)?;
-    check_causes(&rt, &mut two_levels::<Evbdd>(rt.alloc(), &SHANNON, 1, 1)?)?;
+fn a_store_of_one_node_is_full(rt: HostRuntime) {
+    check_causes(&rt, &mut two_levels::<Hdd>(&rt, rt.alloc(), NEGATIVE, 1, 0));
     check_causes(
         &rt,
-        &mut two_levels::<StarBmd>(rt.alloc(), &POSITIVE, 1, 2)?,
-    )?;
+        &mut two_levels::<Evbdd>(&rt, rt.alloc(), SHANNON, 1, 1),
+    );
     check_causes(
         &rt,
-        &mut two_levels::<KStarBmd>(rt.alloc(), &SHANNON, 1, 8)?,
-    )
+        &mut two_levels::<StarBmd>(&rt, rt.alloc(), POSITIVE, 1, 2),
+    );
+    check_causes(
+        &rt,
+        &mut two_levels::<KStarBmd>(&rt, rt.alloc(), SHANNON, 1, 8),
+    );
 }

@@ -3,7 +3,7 @@ ghost use Rattle.std.specs.Prelude.{IfOk};
 ghost use Rattle.kind_laws.specs.Plain.{plain};
 ghost use Rattle.diagram.specs.View.{IsEdge};
 
-use crate::terms::{NEGATIVE, POSITIVE, SHANNON, Term, X, Y, number, two_levels};
+use crate::terms::{NEGATIVE, POSITIVE, SHANNON, Term, X, Y, edge_of, two_levels};
 use diagram::{Builder, Limit};
 use evbdd::Evbdd;
 use hdd::Hdd;
@@ -12,7 +12,6 @@ use kind_laws::{Edge, Kind};
 use record_store::SoloStore;
 use star_bmd::StarBmd;
 use std::process::Abort;
-use std::test::Fail;
 use word_base::{Decomp, Overflow, Weight};
 
 /// The half of an edge at a level that is not below its node.
@@ -31,18 +30,22 @@ fn half_at<K: Kind>(
     builder.cofactor(edge, level, bit)
 }
 
+/// The half of a term at level 0 where its variable is 1.
+fn half_of<K: Kind>(rt: &impl Abort, builder: &mut Builder<K, SoloStore>, term: &Term) -> Edge<K> {
+    let edge = term.edge(rt, builder).expect(rt, "an edge");
+    half_at(rt, builder, edge, 0, true).expect(rt, "a half")
+}
+
 /// No two of a variable and what it lacks to 1 are 1 together.
 #[test]
-fn cofactor_of_a_product_of_complements(rt: HostRuntime) -> Result<(), Fail> {
-    let mut builder = two_levels::<Hdd>(rt.alloc(), &NEGATIVE, 100, 0)?;
+fn cofactor_of_a_product_of_complements(rt: HostRuntime) {
+    let mut builder = two_levels::<Hdd>(&rt, rt.alloc(), NEGATIVE, 100, 0);
     let one = Term::Constant(Weight::ONE);
     let not_x = Term::Difference(&one, &X);
     let not_y = Term::Difference(&one, &Y);
-    let product = Term::Product(&not_x, &not_y).edge(&rt, &mut builder)?;
-    let half = half_at(&rt, &mut builder, product, 0, true)?;
+    let half = half_of(&rt, &mut builder, &Term::Product(&not_x, &not_y));
     let zero = builder.constant(Weight::ZERO);
     assert!(&rt; builder.same(half, zero));
-    Ok(())
 }
 
 /// The sum of an edge and a multiple of a term.
@@ -87,6 +90,19 @@ fn value(coefficients: &[Weight; 4], x: bool, y: bool) -> Result<Weight, Overflo
     coefficients[0].add(at_x)?.add(at_y)?.add(at_both)
 }
 
+/// The half of a half of a polynomial.
+fn entry_of<K: Kind>(
+    rt: &impl Abort,
+    builder: &mut Builder<K, SoloStore>,
+    coefficients: &[Weight; 4],
+    x: bool,
+    y: bool,
+) -> Edge<K> {
+    let whole = polynomial(rt, builder, coefficients).expect(rt, "a polynomial");
+    let half = half_at(rt, builder, whole, 0, x).expect(rt, "a half");
+    half_at(rt, builder, half, 1, y).expect(rt, "an entry")
+}
+
 /// Stops where the half of a half of a polynomial is not its value.
 fn check_value<K: Kind>(
     rt: &impl Abort,
@@ -94,13 +110,11 @@ fn check_value<K: Kind>(
     coefficients: &[Weight; 4],
     x: bool,
     y: bool,
-) -> Result<(), Fail> {
-    let wanted = builder.constant(value(coefficients, x, y)?);
-    let whole = polynomial(rt, builder, coefficients)?;
-    let half = half_at(rt, builder, whole, 0, x)?;
-    let entry = half_at(rt, builder, half, 1, y)?;
+) {
+    let value = value(coefficients, x, y).expect(rt, "in range");
+    let wanted = edge_of(rt, builder, &Term::Constant(value));
+    let entry = entry_of(rt, builder, coefficients, x, y);
     assert!(rt; builder.same(entry, wanted));
-    Ok(())
 }
 
 /// The next number of a sequence that looks random.
@@ -120,8 +134,19 @@ fn random_weight(state: u64) -> Weight {
     }
 }
 
-/// Each value of random polynomials, by two halves.
-fn check_halves<K: Kind>(rt: &impl Abort, builder: &mut Builder<K, SoloStore>) -> Result<(), Fail> {
+/// Each value of a polynomial, by two halves.
+fn check_values<K: Kind>(
+    rt: &impl Abort,
+    builder: &mut Builder<K, SoloStore>,
+    coefficients: &[Weight; 4],
+) {
+    for (x, y) in [(false, false), (false, true), (true, false), (true, true)] {
+        check_value(rt, builder, coefficients, x, y);
+    }
+}
+
+/// The values of random polynomials.
+fn check_halves<K: Kind>(rt: &impl Abort, builder: &mut Builder<K, SoloStore>) {
     let mut state = 88_172_645_463_325_252;
     for _ in 0..8 {
         let coefficients = [
@@ -130,33 +155,32 @@ fn check_halves<K: Kind>(rt: &impl Abort, builder: &mut Builder<K, SoloStore>) -
             random_weight(state >> 32),
             random_weight(state >> 44),
         ];
-        check_value(rt, builder, &coefficients, false, false)?;
-        check_value(rt, builder, &coefficients, false, true)?;
-        check_value(rt, builder, &coefficients, true, false)?;
-        check_value(rt, builder, &coefficients, true, true)?;
+        check_values(rt, builder, &coefficients);
         state = next(state);
     }
-    Ok(())
 }
 
 #[test]
-fn halves_of_halves_are_values(rt: HostRuntime) -> Result<(), Fail> {
+fn halves_of_halves_are_values(rt: HostRuntime) {
     for first in [Decomp::S, Decomp::P, Decomp::N] {
         for second in [Decomp::S, Decomp::P, Decomp::N] {
             let letters = [first, second];
-            check_halves(&rt, &mut two_levels::<Hdd>(rt.alloc(), &letters, 1000, 1)?)?;
             check_halves(
                 &rt,
-                &mut two_levels::<KStarBmd>(rt.alloc(), &letters, 1000, 2)?,
-            )?;
+                &mut two_levels::<Hdd>(&rt, rt.alloc(), letters, 1000, 1),
+            );
+            check_halves(
+                &rt,
+                &mut two_levels::<KStarBmd>(&rt, rt.alloc(), letters, 1000, 2),
+            );
         }
     }
     check_halves(
         &rt,
-        &mut two_levels::<Evbdd>(rt.alloc(), &SHANNON, 1000, 8)?,
-    )?;
+        &mut two_levels::<Evbdd>(&rt, rt.alloc(), SHANNON, 1000, 8),
+    );
     check_halves(
         &rt,
-        &mut two_levels::<StarBmd>(rt.alloc(), &POSITIVE, 1000, 0)?,
-    )
+        &mut two_levels::<StarBmd>(&rt, rt.alloc(), POSITIVE, 1000, 0),
+    );
 }

@@ -10,7 +10,7 @@ use record_store::SoloStore;
 use std::alloc::Global;
 use std::process::Abort;
 use std::test::Fail;
-use word_base::{Decomp, Levels, Weight};
+use word_base::{Decomp, Levels, Weight, allows};
 
 /// A polynomial in the variables of a builder's levels.
 #[derive(Drop)]
@@ -77,7 +77,7 @@ impl Term<'_> {
 }
 
 /// A builder with two levels, which remembers few results.
-pub(crate) fn two_levels<K: Kind>(
+fn new_builder<K: Kind>(
     alloc: Global,
     letters: &[Decomp; 2],
     cells: u32,
@@ -93,16 +93,58 @@ pub(crate) fn two_levels<K: Kind>(
     Builder::create(alloc, store, levels, cells, cache_log).map_err(|_| Fail::from("no memory"))
 }
 
+/// A builder with two levels, which remembers few results. It looks at the letters itself, so that a test need not show that they are
+/// allowed.
+pub(crate) fn two_levels<K: Kind>(
+    rt: &impl Abort,
+    alloc: Global,
+    letters: [Decomp; 2],
+    cells: u32,
+    cache_log: u32,
+) -> Builder<K, SoloStore> {
+    let [first, second] = letters;
+    assert!(rt; allows(K::NAME, first));
+    assert!(rt; allows(K::NAME, second));
+    assert!(rt; 0 < cells);
+    assert!(rt; cells <= 1000);
+    assert!(rt; cache_log <= 8);
+    match new_builder(alloc, &[first, second], cells, cache_log) {
+        Ok(builder) => builder,
+        Err(_) => rt.panic("no memory"),
+    }
+}
+
+/// The edge of a term that has one. It promises nothing, so that a test has little to prove.
+pub(crate) fn edge_of<K: Kind>(
+    rt: &impl Abort,
+    builder: &mut Builder<K, SoloStore>,
+    term: &Term,
+) -> Edge<K> {
+    term.edge(rt, builder).expect(rt, "an edge")
+}
+
+/// The limit at which a term is given up, if it is.
+pub(crate) fn limit_of<K: Kind>(
+    rt: &impl Abort,
+    builder: &mut Builder<K, SoloStore>,
+    term: &Term,
+) -> Option<Limit> {
+    match term.edge(rt, builder) {
+        Ok(_) => None,
+        Err(limit) => Some(limit),
+    }
+}
+
 /// Whether two terms have one edge.
 pub(crate) fn are_same<K: Kind>(
     rt: &impl Abort,
     builder: &mut Builder<K, SoloStore>,
     one: &Term,
     other: &Term,
-) -> Result<bool, Limit> {
-    let one = one.edge(rt, builder)?;
-    let other = other.edge(rt, builder)?;
-    Ok(builder.same(one, other))
+) -> bool {
+    let one = edge_of(rt, builder, one);
+    let other = edge_of(rt, builder, other);
+    builder.same(one, other)
 }
 
 /// A number that is a weight.

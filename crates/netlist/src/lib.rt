@@ -19,8 +19,6 @@ mod nets;
 mod order;
 mod postorder;
 mod source;
-#[cfg(test)]
-mod tests;
 mod values;
 
 pub use circuits::GateWord;

@@ -21,7 +21,5 @@ mod nets;
 mod reader;
 mod survey;
 mod symbol;
-#[cfg(test)]
-mod tests;
 
 pub use reader::read;

@@ -16,10 +16,6 @@ mod probe;
 mod step;
 mod stock;
 mod table;
-#[cfg(test)]
-mod tests;
-#[cfg(test)]
-mod thread_tests;
 mod token;
 mod walk;
 

@@ -4,8 +4,6 @@
 mod expressions;
 mod fold;
 mod gates;
-#[cfg(test)]
-mod tests;
 mod words;
 
 pub use expressions::expression;

@@ -90,3 +90,13 @@ returns-in_ok-a-in-Multiple-clause-keeps g t c =
 pub returns-in_ok-a-in-Negative-clause-keeps : goal.returns-in_ok-a-in-Negative-clause-keeps
 returns-in_ok-a-in-Negative-clause-keeps g t c =
     keeps_on c.args.builder.now c.edge-in-Negative.new.builder c.neg.new.self c.in_ok-a-in-Negative.ensures.keeps c.neg.ensures.keeps
+
+pub returns-in_ok-a-in-Multiple-clause-good : goal.returns-in_ok-a-in-Multiple-clause-good
+returns-in_ok-a-in-Multiple-clause-good g t c =
+    let a = c.in_ok-a-in-Multiple.ensures.good in
+    good_answer g.K.Kind.NAME c.edge-in-Multiple.new.builder c.scale.new.self _ 0 _ (plain g.K.Kind.extra_of) c.scale.result (c.scale.ensures.multiple 0 a.0 a.1)
+
+pub returns-in_ok-a-in-Negative-clause-good : goal.returns-in_ok-a-in-Negative-clause-good
+returns-in_ok-a-in-Negative-clause-good g t c =
+    let a = c.in_ok-a-in-Negative.ensures.good in
+    good_answer g.K.Kind.NAME c.edge-in-Negative.new.builder c.neg.new.self _ 0 _ (plain g.K.Kind.extra_of) c.neg.result (c.neg.ensures.negative 0 a.0 a.1)
